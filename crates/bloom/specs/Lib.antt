@@ -1,0 +1,4 @@
+pub mod Bits
+pub mod Bloom
+pub mod Setting
+pub mod Rules

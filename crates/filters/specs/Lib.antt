@@ -1,0 +1,4 @@
+pub mod Kind
+pub mod Answers
+pub mod Judged
+pub mod Fronts

@@ -1,0 +1,4 @@
+pub mod Rows
+pub mod Deciders
+pub mod Laws
+pub mod Piles
