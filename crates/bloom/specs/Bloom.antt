@@ -21,12 +21,13 @@ pub record BloomView : Type 0 where
 abbrev pub pair-of : Settings → List ℕ → HashPair
 pair-of s x = hash-pair (s .hashing .salt) (s .hashing .level) x
 
--- 8 bits a byte, and k positions
-abbrev pub bloom-says : Settings → List ℕ → List ℕ → Bool
-bloom-says s table x = has-all (pair-of s x .h1) (pair-of s x .h2) (8 * s .size) (s .hashing .hashes) table
+-- 8 bits a byte, and k positions: all of a hash pair's are set
+abbrev pub says-pair : BloomView → HashPair → Bool
+says-pair v h = has-all (h .h1) (h .h2) (8 * v .settings .size) (v .settings .hashing .hashes) (v .table)
 
-abbrev pub bloom-put : Settings → List ℕ → List ℕ → List ℕ
-bloom-put s table x = with-all (pair-of s x .h1) (pair-of s x .h2) (8 * s .size) (s .hashing .hashes) table
+-- the same view with a hash pair's positions set
+abbrev pub with-pair : BloomView → HashPair → BloomView
+with-pair v h = record { settings = v .settings; table = with-all (h .h1) (h .h2) (8 * v .settings .size) (v .settings .hashing .hashes) (v .table) }
 
 abbrev pub bloom-kind : Kind BloomView
 bloom-kind = record {
@@ -36,9 +37,9 @@ bloom-kind = record {
   settings = λ v. v .settings;
   blank = record { settings = first-settings; table = replicate 1 0 };
   cleared = λ s. record { settings = s; table = replicate (s .size) 0 };
-  says = λ v x. bloom-says (v .settings) (v .table) x;
+  says = λ v x. says-pair v (pair-of (v .settings) x);
   takes = λ v x. true;
-  put = λ v x. record { settings = v .settings; table = bloom-put (v .settings) (v .table) x };
+  put = λ v x. with-pair v (pair-of (v .settings) x);
   saved = λ v. v .table;
   measures = bloom-measures;
   judges = λ body. fine;

@@ -6,7 +6,7 @@ ghost use Prim.Native.Nat.{ℕ, _+_, _*_, _<_, _≤_};
 ghost use lib.ListN.{length};
 ghost use Rattle.bloom.specs.Bits.{position, with-all, has-all, Sets-these};
 ghost use Rattle.bloom.specs.Setting.{bloom-allows};
-ghost use Rattle.bloom.specs.Bloom.{BloomView, bloom-kind, bloom-view};
+ghost use Rattle.bloom.specs.Bloom.{BloomView, bloom-kind, bloom-view, with-pair};
 ghost use Rattle.bloom.specs.Rules.{bloom-rules, bloom-sound};
 use filters::Filter;
 use filters::Hashing;
@@ -68,6 +68,24 @@ fn allowed(size: usize, hashes: u8) -> bool
     size >= 1 && size <= 2048 && hashes >= 1 && hashes <= 8
 }
 
+impl Bloom {
+    /// An empty filter under settings that are allowed.
+    fn emptied(settings: Settings) -> Bloom
+        requires { ⌜ bloom-allows (settings .size) (settings .hashing .hashes) ≡ true ⌝ }
+        ensures { λ r. ⌜ bloom-view (r .settings) (r .table) ≡ bloom-kind .cleared settings ⌝ }
+    {
+        Bloom { table: [0; 2048], settings }
+    }
+
+    /// Sets the positions of a hash pair in the table in use.
+    fn set(&mut self, pair: HashPair)
+        ensures { λ _. ⌜ bloom-view (now (self .exit) .settings) (now (self .exit) .table) ≡ with-pair (bloom-view (now (self .entry) .settings) (now (self .entry) .table)) pair ⌝ }
+    {
+        let n = self.settings.size;
+        set_positions(&mut self.table[0..n], pair, self.settings.hashing.hashes);
+    }
+}
+
 pub impl Filter for Bloom as BloomFilter {
     ghost View = { BloomView };
 
@@ -110,16 +128,13 @@ pub impl Filter for Bloom as BloomFilter {
         if !allowed(settings.size, settings.hashing.hashes) {
             return Err(Refusal::plain(Reason::BadSetting));
         }
-        self.table = [0; 2048];
-        self.settings = settings;
+        *self = Bloom::emptied(settings);
         Ok(())
     }
 
     fn put<I: Identifier>(&mut self, id: &I) -> bool {
         let at = self.settings.hashing;
-        let pair = id.hashes(at.salt, at.level);
-        let n = self.settings.size;
-        set_positions(&mut self.table[0..n], pair, at.hashes);
+        self.set(id.hashes(at.salt, at.level));
         true
     }
 

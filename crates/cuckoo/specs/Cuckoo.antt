@@ -26,18 +26,36 @@ pair-of s x = hash-pair (s .hashing .salt) (s .hashing .level) x
 abbrev pub buckets : Settings → ℕ
 buckets s = s .size / 4
 
--- the first bucket of an identifier
+-- the first bucket of a hash pair
+abbrev pub bucket-of : Settings → HashPair → ℕ
+bucket-of s h = h .h1 % buckets s
+
+-- its fingerprint stands in its first bucket or the partner
+abbrev pub says-pair : CuckooView → HashPair → Bool
+says-pair v h = stands (partner (buckets (v .settings))) (v .cells) (bucket-of (v .settings) h) (fingerprint (h .h2))
+
+-- the cells after a put, if it is taken
+abbrev pub stored-pair : CuckooView → HashPair → Option (List ℕ)
+stored-pair v h = stored (partner (buckets (v .settings))) (v .cells) (bucket-of (v .settings) h) (fingerprint (h .h2))
+
+abbrev pub with-cells : CuckooView → List ℕ → CuckooView
+with-cells v cells = record { settings = v .settings; cells = cells }
+
+-- the answer of a put and the view after it
+abbrev pub after-pair : CuckooView → HashPair → Bool × CuckooView
+after-pair v h = (isSome (stored-pair v h), with-cells v (valueOr (stored-pair v h) (v .cells)))
+
 abbrev pub home : Settings → List ℕ → ℕ
-home s x = pair-of s x .h1 % buckets s
+home s x = bucket-of s (pair-of s x)
 
 abbrev pub print : Settings → List ℕ → ℕ
 print s x = fingerprint (pair-of s x .h2)
 
 abbrev pub cuckoo-says : Settings → List ℕ → List ℕ → Bool
-cuckoo-says s cells x = stands (partner (buckets s)) cells (home s x) (print s x)
+cuckoo-says s cells x = says-pair (record { settings = s; cells = cells }) (pair-of s x)
 
 abbrev pub cuckoo-put : Settings → List ℕ → List ℕ → Option (List ℕ)
-cuckoo-put s cells x = stored (partner (buckets s)) cells (home s x) (print s x)
+cuckoo-put s cells x = stored-pair (record { settings = s; cells = cells }) (pair-of s x)
 
 abbrev pub cuckoo-kind : Kind CuckooView
 cuckoo-kind = record {

@@ -17,6 +17,7 @@ use Rattle.std.proofs.shelf.Bits.{mod-below}
 use Rattle.std.proofs.shelf.Tests.{and-parts, and-from, cases-bool, ne-eqb, or-from, false≢true}
 use Rattle.passes.specs.Bytes.{bytes}
 use Rattle.passes.specs.ByteLaws.{bytes-zeros, bytes-take}
+use Rattle.passes.specs.declared.identifier.HashPair.{HashPair}
 use Rattle.filters.specs.declared.Hashing.{Hashing}
 use Rattle.filters.specs.declared.Settings.{Settings}
 use Rattle.filters.specs.Kind.{Kind, Rules, hashes-allowed, judged}
@@ -25,7 +26,7 @@ use Rattle.cuckoo.specs.Cells.{spread, partner, holds, stands, stored, fingerp
 use Rattle.cuckoo.specs.Powers.{power-of-two, powers}
 use Rattle.cuckoo.specs.Setting.{cuckoo-allows, cuckoo-measures, first-settings}
 use Rattle.cuckoo.specs.Keeping.{At, at-stands, stands-at, stored-keeps, stored-sized}
-use Rattle.cuckoo.specs.Cuckoo.{CuckooView, cuckoo-kind, cuckoo-view, pair-of, buckets, home, print, cuckoo-says, cuckoo-put}
+use Rattle.cuckoo.specs.Cuckoo.{CuckooView, cuckoo-kind, cuckoo-view, pair-of, buckets, home, print, bucket-of, stored-pair, cuckoo-says, cuckoo-put}
 
 -- the partner's partner is the bucket itself
 pub partner-twice : (b i f : ℕ) → partner b (partner b i f) f ≡ i
@@ -115,8 +116,8 @@ module _ (s : Settings) (ok : cuckoo-allows (s .size) (s .hashing .hashes) ≡ t
       (put-keeps t u x long e (home s y) (print s y) (home-low y) (print-some y)
         (inl (at-stands (partner (buckets s)) (buckets s) mates-low (λ i f _. partner-twice (buckets s) i f) t (home s y) (print s y) (omega arith) (home-low y) h)))
 
-  pub put-sized : (t u x : List ℕ) → length t ≡ s .size → bytes t ≡ true → cuckoo-put s t x ≡ Some u → (length u ≡ s .size) × (bytes u ≡ true)
-  put-sized t u x long real e = stored-sized (partner (buckets s)) (buckets s) mates-low (λ i f _. partner-twice (buckets s) i f) (s .size) t u (home s x) (print s x) (print-low x) (long, real) e
+  pub put-sized : (t u : List ℕ) (h : HashPair) → length t ≡ s .size → bytes t ≡ true → stored-pair (record { settings = s; cells = t }) h ≡ Some u → (length u ≡ s .size) × (bytes u ≡ true)
+  put-sized t u h long real e = stored-sized (partner (buckets s)) (buckets s) mates-low (λ i f _. partner-twice (buckets s) i f) (s .size) t u (bucket-of s h) (fingerprint (h .h2)) (omega arith) (long, real) e
 
 getD-zeros : (n i : ℕ) → _≡_ {A = ℕ} (getD (replicate n 0) i 0) 0
 getD-zeros zero i = refl
@@ -151,7 +152,7 @@ module _ (v : CuckooView) (x : List ℕ) (w : Whole v) (taken : cuckoo-kind .tak
 
   sound-after : cuckoo-kind .sound (cuckoo-kind .put v x) ≡ true
   sound-after =
-      let z = put-sized (v .settings) (w .allowed) (v .cells) (cuckoo-kind .put v x .cells) x (w .long) (w .real) now-stored in
+      let z = put-sized (v .settings) (w .allowed) (v .cells) (cuckoo-kind .put v x .cells) (pair-of (v .settings) x) (w .long) (w .real) now-stored in
       sound-from (cuckoo-kind .put v x) (record { allowed = w .allowed; long = z .0; real = z .1 })
 
   has-after : cuckoo-kind .says (cuckoo-kind .put v x) x ≡ true

@@ -3,12 +3,13 @@ ghost use mathlib.Core.Path.{_≡_};
 ghost use mathlib.Core.Bool.{Bool, true, false};
 ghost use Prim.Native.Nat.{ℕ};
 ghost use Rattle.cuckoo.specs.Setting.{cuckoo-allows, cuckoo-measures};
-ghost use Rattle.cuckoo.specs.Cuckoo.{CuckooView, cuckoo-kind, cuckoo-view};
+ghost use Rattle.cuckoo.specs.Cuckoo.{CuckooView, cuckoo-kind, cuckoo-view, after-pair, says-pair};
 ghost use Rattle.cuckoo.specs.Laws.{Cuckoo-laws};
 ghost use Rattle.cuckoo.specs.Rules.{cuckoo-rules, cuckoo-sound};
 use filters::Filter;
 use filters::Hashing;
 use filters::Settings;
+use passes::identifier::HashPair;
 use passes::identifier::Identifier;
 use refusals::Reason;
 use refusals::Refusal;
@@ -40,6 +41,36 @@ fn allowed(size: usize, hashes: u8) -> bool
     ensures { λ r. ⌜ r ≡ cuckoo-allows size hashes ⌝ }
 {
     measures(size) && hashes >= 1 && hashes <= 8
+}
+
+impl Cuckoo {
+    /// An empty filter under settings that are allowed.
+    fn emptied(settings: Settings) -> Cuckoo
+        requires { ⌜ cuckoo-allows (settings .size) (settings .hashing .hashes) ≡ true ⌝ }
+        ensures { λ r. ⌜ cuckoo-view (r .settings) (r .cells) ≡ cuckoo-kind .cleared settings ⌝ }
+    {
+        Cuckoo { cells: [0; 2048], settings }
+    }
+
+    /// Puts the fingerprint of a hash pair, and says whether it was taken.
+    fn take(&mut self, pair: HashPair) -> bool
+        ensures { λ r. ⌜ (r, cuckoo-view (now (self .exit) .settings) (now (self .exit) .cells)) ≡ after-pair (cuckoo-view (now (self .entry) .settings) (now (self .entry) .cells)) pair ⌝ }
+    {
+        let n = self.settings.size;
+        let b = n / 4;
+        let place = place_of(pair, b);
+        store(&mut self.cells[0..n], b, place.bucket, place.fingerprint)
+    }
+
+    /// Whether the fingerprint of a hash pair stands in its bucket or the partner.
+    fn finds(&self, pair: HashPair) -> bool
+        ensures { λ r. ⌜ r ≡ says-pair (cuckoo-view (now (self .entry) .settings) (now (self .entry) .cells)) pair ⌝ }
+    {
+        let n = self.settings.size;
+        let b = n / 4;
+        let place = place_of(pair, b);
+        stands_in(&self.cells[0..n], b, place.bucket, place.fingerprint)
+    }
 }
 
 pub impl Filter for Cuckoo as CuckooFilter {
@@ -84,27 +115,18 @@ pub impl Filter for Cuckoo as CuckooFilter {
         if !allowed(settings.size, settings.hashing.hashes) {
             return Err(Refusal::plain(Reason::BadSetting));
         }
-        self.cells = [0; 2048];
-        self.settings = settings;
+        *self = Cuckoo::emptied(settings);
         Ok(())
     }
 
     fn put<I: Identifier>(&mut self, id: &I) -> bool {
         let at = self.settings.hashing;
-        let pair = id.hashes(at.salt, at.level);
-        let n = self.settings.size;
-        let b = n / 4;
-        let place = place_of(pair, b);
-        store(&mut self.cells[0..n], b, place.bucket, place.fingerprint)
+        self.take(id.hashes(at.salt, at.level))
     }
 
     fn ask<I: Identifier>(&self, id: &I) -> bool {
         let at = self.settings.hashing;
-        let pair = id.hashes(at.salt, at.level);
-        let n = self.settings.size;
-        let b = n / 4;
-        let place = place_of(pair, b);
-        stands_in(&self.cells[0..n], b, place.bucket, place.fingerprint)
+        self.finds(id.hashes(at.salt, at.level))
     }
 
     fn saved_len(&self) -> usize {

@@ -30,7 +30,8 @@ impl<'a> Reader<'a> {
     pub fn place(&self) -> usize
         ensures { λ r. ⌜ r ≡ now (self .entry) .at ⌝ }
     {
-        self.at
+        let here = self.at;
+        here
     }
 
     /// Reads the header of the field whose tag is due.

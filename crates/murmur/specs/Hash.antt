@@ -6,15 +6,15 @@ use lib.Bits.{bitOr, bitXor}
 use lib.ListN.{length}
 
 -- x, a number of 32 bits, rotated left by n places
-unfoldable pub rotl : ℕ → ℕ → ℕ
+abbrev pub rotl : ℕ → ℕ → ℕ
 rotl n x = bitOr ((x * 2 ^ n) % 2 ^ 32) (x / 2 ^ (32 - n))
 
 -- a group of bytes, read as a number, before it enters the state
-unfoldable pub mixed : ℕ → ℕ
+abbrev pub mixed : ℕ → ℕ
 mixed k = (rotl 15 ((k * 0xCC9E2D51) % 2 ^ 32) * 0x1B873593) % 2 ^ 32
 
 -- the state after one whole group
-unfoldable pub folded : ℕ → ℕ → ℕ
+abbrev pub folded : ℕ → ℕ → ℕ
 folded h k = ((rotl 13 (bitXor h (mixed k)) * 5) % 2 ^ 32 + 0xE6546B64) % 2 ^ 32
 
 -- four bytes, the low one first
@@ -37,7 +37,7 @@ unfoldable pub finished : ℕ → ℕ → ℕ
 finished h size = downed 16 ((downed 13 ((downed 16 (bitXor h size) * 0x85EBCA6B) % 2 ^ 32) * 0xC2B2AE35) % 2 ^ 32)
 
 -- the hash; the length enters modulo 2^32
-unfoldable pub murmur : ℕ → List ℕ → ℕ
+abbrev pub murmur : ℕ → List ℕ → ℕ
 murmur seed xs = finished (absorbed seed xs) (length xs % 2 ^ 32)
 
 -- a whole group of four bytes

@@ -1,13 +1,25 @@
 //! MurmurHash3 x86 32-bit.
 ghost use mathlib.Core.Path.{_≡_};
-ghost use Prim.Native.Nat.{ℕ, _%_, _^_};
-ghost use lib.ListN.{length};
-ghost use Rattle.murmur.specs.Hash.{murmur, mixed, folded, finished, By-groups};
+ghost use mathlib.Core.Bool.{true};
+ghost use Rattle.murmur.specs.Hash.{murmur, mixed, folded, absorbed, finished, By-groups};
 
 /// The hash of a byte string of any length at any seed.
 pub fn hash(seed: u32, bytes: &[u8]) -> u32
-    ensures value { λ r. ⌜ r ≡ murmur seed (now (bytes .entry)) ⌝ }
-    ensures groups { λ _. ⌜ By-groups ⌝ }
+    ensures { λ r. ⌜ r ≡ murmur seed (now (bytes .entry)) ⌝ }
+{
+    finish(absorb(seed, bytes), (bytes.len() % 0x1_0000_0000) as u32)
+}
+
+/// Bytes enter the state in whole groups, one after the other.
+pub fn groups_enter_in_turn() -> bool
+    ensures { λ r. ⌜ By-groups ⌝ ∗ ⌜ r ≡ true ⌝ }
+{
+    true
+}
+
+/// The state after all bytes.
+fn absorb(seed: u32, bytes: &[u8]) -> u32
+    ensures { λ r. ⌜ r ≡ absorbed seed (now (bytes .entry)) ⌝ }
 {
     let mut h = seed;
     let mut left = bytes;
@@ -15,13 +27,12 @@ pub fn hash(seed: u32, bytes: &[u8]) -> u32
         h = fold(h, u32::from_le_bytes([*a, *b, *c, *d]));
         left = rest;
     }
-    let h = match left {
+    match left {
         [a] => h ^ mix(u32::from_le_bytes([*a, 0, 0, 0])),
         [a, b] => h ^ mix(u32::from_le_bytes([*a, *b, 0, 0])),
         [a, b, c] => h ^ mix(u32::from_le_bytes([*a, *b, *c, 0])),
         _ => h,
-    };
-    finish(h, (bytes.len() & 0xFFFF_FFFF) as u32)
+    }
 }
 
 /// A group, before it enters the state.

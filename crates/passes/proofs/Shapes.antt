@@ -1,56 +1,60 @@
 -- The test of a lawful shape decides it; and the pass that a lawful form is read as.
 use Prim.Native.Nat.{ℕ, zero, suc, _+_, _-_, _*_, _/_, _%_, _≤_, _<_}
 use mathlib.Core.Path.{_≡_, refl, sym, ap, _∙_}
-use mathlib.Core.Bool.{Bool, true, false, _&&_, _||_}
+use mathlib.Core.Bool.{Bool, true, false, cond, _&&_}
 use mathlib.Core.Logic.{⊎-elim}
 use mathlib.Core.List.{List, [], _∷_, _++_}
 use lib.Dec.{eqb, leb, ltb}
 use lib.ListN.{length, getD, drop, take}
 use native.Mathlib.Omega.{arith}
 use Rattle.std.specs.Orderings.{Decides}
-use Rattle.std.proofs.shelf.Ways.{tells, decides-at}
 use Rattle.std.proofs.shelf.Lists.{drop-more, drop-all, take-rest, length-drop, getD-drop}
 use native.Mathlib.Numerals.{add-one}
-use Rattle.std.proofs.shelf.Tests.{and-parts, or-cases, and-from, or-left, or-right, eqb-true, leb-true, eq-eqb, le-leb, true≢false}
+use Rattle.std.proofs.shelf.Tests.{and-parts, and-from, and-left, eqb-true, leb-true, eq-eqb, ne-eqb, le-leb, lt-leb, cases-eq, cond-false, both-ways, true≢false}
 use Rattle.passes.specs.Bytes.{bytes, be2, be8}
 use Rattle.passes.specs.Forms.{chip-form}
 use Rattle.passes.proofs.Parts.{chip-plain}
-use Rattle.passes.specs.Lawful.{Lawful, tag, chip, lawful}
+use Rattle.passes.specs.Lawful.{Lawful, tag, chip, begins, lawful}
 
 from-test : (xs : List ℕ) → lawful xs ≡ true → Lawful xs
 from-test [] e = absurd (true≢false (sym e))
 from-test (x ∷ xs) e =
-    let p = and-parts _ _ e in
-    let b = and-parts _ _ (p .1) .1 in
+    let n = suc (length xs) in
+    let p = and-parts (leb 4 n && begins x n) (ltb x 256 && bytes xs) e in
+    let q = and-parts (leb 4 n) (begins x n) (p .0) in
+    let b = and-parts (ltb x 256) (bytes xs) (p .1) .1 in
+    let l = leb-true 4 n (q .0) in
     ⊎-elim
-    (λ t. let q = and-parts _ _ t in
-      let l = eqb-true (suc (length xs)) 11 (q .1) in
-      rw (eqb-true x 0x54 (q .0)) (tag {rest = xs} (omega arith) b))
-    (λ t. let q = and-parts _ _ t in
-      let r = and-parts _ _ (q .1) in
-      let l = leb-true 4 (suc (length xs)) (r .0) in
-      let h = leb-true (suc (length xs)) 23 (r .1) in
-      rw (eqb-true x 0x43 (q .0)) (chip {rest = xs} (omega arith) (omega arith) b))
-    (or-cases _ _ (p .0))
+    (λ (t : x ≡ 0x54).
+      let h = eqb-true n 11 (ap (λ (k : ℕ). begins k n) (sym t) ∙ q .1) in
+      rw t (tag {rest = xs} (omega arith) b))
+    (λ (t : x ≡ 0x54 → ⊥).
+      ⊎-elim
+      (λ (u : x ≡ 0x43).
+        let h = leb-true n 23 (ap (λ (k : ℕ). begins k n) (sym u) ∙ q .1) in
+        rw u (chip {rest = xs} (omega arith) (omega arith) b))
+      (λ (u : x ≡ 0x43 → ⊥).
+        let none : begins x n ≡ false = cond-false (eqb x 0x54) (eqb n 11) (cond (eqb x 0x43) (leb n 23) false) (ne-eqb x 0x54 t) ∙ cond-false (eqb x 0x43) (leb n 23) false (ne-eqb x 0x43 u) in
+        absurd (both-ways (begins x n) none (q .1)))
+      (cases-eq x 0x43))
+    (cases-eq x 0x54)
 
 to-test : (xs : List ℕ) → Lawful xs → lawful xs ≡ true
-to-test xs (tag {rest} e b) = and-from _ _ (or-left _ _ (eq-eqb (suc (length rest)) 11 (ap suc e))) b
-to-test xs (chip {rest} l h b) = and-from _ _ (and-from _ _ (le-leb 4 (suc (length rest)) (omega arith)) (le-leb (suc (length rest)) 23 (omega arith))) b
+to-test xs (tag {rest} e b) = and-from (leb 4 (suc (length rest)) && eqb (suc (length rest)) 11) (bytes rest) (and-from (leb 4 (suc (length rest))) (eqb (suc (length rest)) 11) (le-leb 4 (suc (length rest)) (omega arith)) (eq-eqb (suc (length rest)) 11 (ap suc e))) b
+to-test xs (chip {rest} l h b) = and-from (leb 4 (suc (length rest)) && leb (suc (length rest)) 23) (bytes rest) (and-from (leb 4 (suc (length rest))) (leb (suc (length rest)) 23) (le-leb 4 (suc (length rest)) (omega arith)) (le-leb (suc (length rest)) 23 (omega arith))) b
+
+and-true-right : (b : Bool) → (b && true) ≡ b
+and-true-right true = refl
+and-true-right false = refl
 
 pub decides-lawful : (xs : List ℕ) → Decides (lawful xs) (Lawful xs)
 decides-lawful xs = (from-test xs, to-test xs)
 
 pub lawful-short : (xs : List ℕ) → length xs < 4 → false ≡ lawful xs
-lawful-short xs l = grind (arith, tells)
+lawful-short xs l = let e = lt-leb 4 (length xs) l in sym (and-left (leb 4 (length xs) && begins (getD xs 0 0) (length xs)) (bytes xs) (and-left (leb 4 (length xs)) (begins (getD xs 0 0) (length xs)) e))
 
-pub lawful-tag : (xs : List ℕ) → bytes xs ≡ true → getD xs 0 0 ≡ 84 → eqb (length xs) 11 ≡ lawful xs
-lawful-tag xs b e = rw (b, e) (grind (arith, tells))
-
-pub lawful-chip : (xs : List ℕ) → bytes xs ≡ true → 4 ≤ length xs → getD xs 0 0 ≡ 67 → leb (length xs) 23 ≡ lawful xs
-lawful-chip xs b l e = rw (b, e) (grind (arith, tells))
-
-pub lawful-else : (xs : List ℕ) → (getD xs 0 0 ≡ 84 → ⊥) → (getD xs 0 0 ≡ 67 → ⊥) → false ≡ lawful xs
-lawful-else xs a b = grind (arith, tells)
+pub lawful-long : (xs : List ℕ) → 4 ≤ length xs → bytes xs ≡ true → begins (getD xs 0 0) (length xs) ≡ lawful xs
+lawful-long xs l b = rw (le-leb 4 (length xs) l, b) (sym (and-true-right (begins (getD xs 0 0) (length xs))))
 
 -- n elements from place i on
 abbrev listed : ℕ → ℕ → List ℕ → List ℕ

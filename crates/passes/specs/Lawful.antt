@@ -1,7 +1,7 @@
 -- The lawful shapes of a written form, and that every identifier's form has one.
 use Prim.Native.Nat.{ℕ, zero, suc, _+_, _/_, _%_, _≤_, _<_, min, max}
 use mathlib.Core.Path.{_≡_, refl, ap}
-use mathlib.Core.Bool.{Bool, true, false, _&&_, _||_}
+use mathlib.Core.Bool.{Bool, true, false, cond, _&&_}
 use mathlib.Core.List.{List, [], _∷_, _++_}
 use lib.Dec.{eqb, leb, ltb}
 use lib.ListN.{length, getD}
@@ -17,9 +17,13 @@ pub data Lawful : List ℕ → Type 0 where
   tag : {rest : List ℕ} → length rest ≡ 10 → bytes rest ≡ true → Lawful (0x54 ∷ rest)
   chip : {rest : List ℕ} → 3 ≤ length rest → length rest ≤ 22 → bytes rest ≡ true → Lawful (0x43 ∷ rest)
 
+-- a form of n bytes, 4 or more, may begin with this byte
+abbrev pub begins : ℕ → ℕ → Bool
+begins kind n = cond (eqb kind 0x54) (eqb n 11) (cond (eqb kind 0x43) (leb n 23) false)
+
 -- the same as a test
 abbrev pub lawful : List ℕ → Bool
-lawful xs = ((eqb (getD xs 0 0) 0x54 && eqb (length xs) 11) || (eqb (getD xs 0 0) 0x43 && (leb 4 (length xs) && leb (length xs) 23))) && bytes xs
+lawful xs = (leb 4 (length xs) && begins (getD xs 0 0) (length xs)) && bytes xs
 
 low : (n : ℕ) → ltb (n % 256) 256 ≡ true
 low n = lt-ltb (n % 256) 256 (omega arith)

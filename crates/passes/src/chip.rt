@@ -1,16 +1,16 @@
 ghost use mathlib.Core.Path.{_≡_};
 ghost use mathlib.Core.Bool.{true, false};
 ghost use mathlib.Core.List.{List, _∷_, _++_};
-ghost use Prim.Native.Nat.{ℕ, _≤_};
+ghost use Prim.Native.Nat.{ℕ, _+_, _%_, _≤_};
 ghost use denote.Ref.{now};
 ghost use lib.ListN.{length};
 ghost use Rattle.std.specs.Results.{Cases, isOk};
 ghost use Rattle.refusals.specs.declared.Reason.the-variants.{BadSerial};
 ghost use Rattle.refusals.specs.Numbers.{plain};
-ghost use Rattle.passes.specs.Bytes.{be2};
+ghost use Rattle.passes.specs.Bytes.{be2, firsts};
 ghost use Rattle.passes.specs.Forms.{spelled, chip-form, stored-form};
 ghost use Rattle.passes.specs.Lawful.{chip-lawful, stored-lawful};
-ghost use Rattle.passes.specs.Made.{serial-fits, first-chip, filled};
+ghost use Rattle.passes.specs.Made.{serial-fits, first-chip, chip-of, filled};
 use crate::form::Form;
 use crate::identifier::Identifier;
 use refusals::Reason;
@@ -32,6 +32,14 @@ impl ChipPass {
         ChipPass { issuer: 0, n: 0, serial: [0; 20] }
     }
 
+    /// The bytes of its serial.
+    pub fn serial_bytes(&self) -> &[u8]
+        ensures { λ r. ⌜ now r ≡ firsts (1 + now (self .entry) .n % 20) (now (self .entry) .serial) ⌝ }
+    {
+        let k = 1 + (self.n % 20) as usize;
+        &self.serial[0..k]
+    }
+
     /// Makes it the pass of this issuer and serial; a serial that has not 1 to 20 bytes is refused and leaves it.
     pub fn fill(&mut self, issuer: u16, serial: &[u8]) -> Result<(), Refusal>
         ensures after { λ r. ⌜ (r, now (self .exit)) ≡ filled (now (self .entry)) issuer (now (serial .entry)) ⌝ }
@@ -41,11 +49,21 @@ impl ChipPass {
         if k < 1 || k > 20 {
             return Err(Refusal::plain(Reason::BadSerial));
         }
-        let mut stored = [0; 20];
-        stored[0..k].copy_from_slice(serial);
-        *self = ChipPass { issuer, n: (k - 1) as u8, serial: stored };
+        *self = stored(issuer, serial);
         Ok(())
     }
+}
+
+/// The stored chip pass of an issuer and a serial, with zeros behind it.
+fn stored(issuer: u16, serial: &[u8]) -> ChipPass
+    requires { ⌜ (1 ≤ length (now serial)) × (length (now serial) ≤ 20) ⌝ }
+    ensures is { λ r. ⌜ r ≡ chip-of issuer (now (serial .entry)) ⌝ }
+    ensures form { λ r. ⌜ stored-form r ≡ 0x43 ∷ (be2 issuer ++ now (serial .entry)) ⌝ }
+{
+    let k = serial.len();
+    let mut bytes = [0; 20];
+    bytes[0..k].copy_from_slice(serial);
+    ChipPass { issuer, n: (k - 1) as u8, serial: bytes }
 }
 
 pub impl Identifier for ChipPass as ChipPassIdentifier {
@@ -54,8 +72,7 @@ pub impl Identifier for ChipPass as ChipPassIdentifier {
     ghost lawful = { stored-lawful };
 
     fn written(&self) -> Form {
-        let k = 1 + (self.n % 20) as usize;
-        write_chip(self.issuer, &self.serial[0..k])
+        write_chip(self.issuer, self.serial_bytes())
     }
 }
 

@@ -14,7 +14,7 @@ returns-then-bytes-eq84 c =
     let l = c .if-not-is-lawful .ensures tt .meaning .0 refl in
     record {
       test = c .if-not-is-lawful .ensures tt .value;
-      form = tag-back xs low (c .from-be-bytes-issuer .result) (c .from-be-bytes-number .result) (tag-length xs l (c .if-bytes-eq84 .taken)) (c .if-bytes-eq84 .taken) (c .from-be-bytes-issuer .ensures) (c .from-be-bytes-number .ensures);
+      form = tag-back xs low (c .issuer-of-issuer .result) (c .from-be-bytes-number .result) (tag-length xs l (c .if-bytes-eq84 .taken)) (c .if-bytes-eq84 .taken) (c .issuer-of-issuer .ensures) (c .from-be-bytes-number .ensures);
     }
 
 pub returns-else-bytes-eq84 : need.returns-else-bytes-eq84
@@ -25,5 +25,5 @@ returns-else-bytes-eq84 c =
     let size = lawful-length l in
     record {
       test = c .if-not-is-lawful .ensures tt .value;
-      form = chip-back xs low (c .from-be-bytes-issuer .result) (take (length xs - 3) (drop 3 xs)) (size .0) (size .1) (chip-first xs l (c .if-bytes-eq84 .left)) (c .from-be-bytes-issuer .ensures) refl;
+      form = chip-back xs low (c .issuer-of-issuer .result) (take (length xs - 3) (drop 3 xs)) (size .0) (size .1) (chip-first xs l (c .if-bytes-eq84 .left)) (c .issuer-of-issuer .ensures) refl;
     }

@@ -1,0 +1,5 @@
+pub mod Walks
+pub mod Inserting
+pub mod Loading
+pub mod Faults
+pub mod Packings
