@@ -22,14 +22,14 @@ other-digit i j h =
     ⊎-elim
     (λ (e : i ≡ j). absurd (h e))
     (⊎-elim
-      (λ (l : i < j).
-        let d = j - i - 1 in
-        let s : j ≡ (1 + d) + i = omega arith in
-        let p = pow-add 2 (1 + d) i in
-        let q = pow-add 2 1 d in
-        let r = shl-shr (2 ^ (1 + d)) i in
-        rw s (rw (p, r, q) (omega arith)))
-      (λ (l : j < i). let b = pow-below j i l in rw (div-eq-of-lt b)))
+    (λ (l : i < j).
+    let d = j - i - 1 in
+    let s : j ≡ (1 + d) + i = omega arith in
+    let p = pow-add 2 (1 + d) i in
+    let q = pow-add 2 1 d in
+    let r = shl-shr (2 ^ (1 + d)) i in
+    rw s (rw (p, r, q) (omega arith)))
+    (λ (l : j < i). let b = pow-below j i l in rw (div-eq-of-lt b)))
     (cases-order i j)
 
 other-bit : (t : List ℕ) (n m : ℕ) → n / 8 < length t → (m ≡ n → ⊥) → bit (with-bit t n) m ≡ bit t m
@@ -37,15 +37,15 @@ unfolding bit with-bit
 other-bit t n m l h =
     ⊎-elim
     (λ (z : m / 8 ≡ n / 8).
-      let a = getD t (n / 8) 0 in
-      let d : m % 8 ≡ n % 8 → ⊥ = λ (e : m % 8 ≡ n % 8). h (let q : m ≡ n = omega arith in q) in
-      let o = other-digit (m % 8) (n % 8) d in
-      let digit : bitOr a (2 ^ (n % 8)) / 2 ^ (m % 8) % 2 ≡ a / 2 ^ (m % 8) % 2 =
-          ap (λ (k : ℕ). k % 2) (or-shr a (2 ^ (n % 8)) (m % 8))
-          ∙ or-mod (a / 2 ^ (m % 8)) (2 ^ (n % 8) / 2 ^ (m % 8)) 1
-          ∙ ap (bitOr (a / 2 ^ (m % 8) % 2)) o ∙ or-zero-r (a / 2 ^ (m % 8) % 2)
-      in
-      rw z (rw getD-set-same (ap (λ (k : ℕ). eqb k 1) digit)))
+    let a = getD t (n / 8) 0 in
+    let d : m % 8 ≡ n % 8 → ⊥ = λ (e : m % 8 ≡ n % 8). h (let q : m ≡ n = omega arith in q) in
+    let o = other-digit (m % 8) (n % 8) d in
+    let digit : bitOr a (2 ^ (n % 8)) / 2 ^ (m % 8) % 2 ≡ a / 2 ^ (m % 8) % 2 =
+    ap (λ (k : ℕ). k % 2) (or-shr a (2 ^ (n % 8)) (m % 8))
+    ∙ or-mod (a / 2 ^ (m % 8)) (2 ^ (n % 8) / 2 ^ (m % 8)) 1
+    ∙ ap (bitOr (a / 2 ^ (m % 8) % 2)) o ∙ or-zero-r (a / 2 ^ (m % 8) % 2)
+    in
+    rw z (rw getD-set-same (ap (λ (k : ℕ). eqb k 1) digit)))
     (λ (z : m / 8 ≡ n / 8 → ⊥). rw getD-set-other)
     (cases-eq (m / 8) (n / 8))
 
@@ -68,7 +68,8 @@ sets-these h1 h2 (suc k) n table l =
     ⊎-elim
     (λ (e : n ≡ p). (λ _. inr (k, omega arith, e), λ _. rw e (bit-set-same t p w)))
     (λ (e : n ≡ p → ⊥).
-      let o = other-bit t p n w e in
-      (λ b. ⊎-elim (λ a. inl a) (λ q. inr (q .0, omega (arith, q .1), q .2)) (ih .0 (sym o ∙ b)),
-       λ c. o ∙ ih .1 (⊎-elim (λ a. inl a) (λ q. inr (q .0, before-last h1 h2 N k n (q .0) (q .1) e (q .2), q .2)) c)))
+    let o = other-bit t p n w e in (
+      λ b. ⊎-elim (λ a. inl a) (λ q. inr (q .0, omega (arith, q .1), q .2)) (ih .0 (sym o ∙ b)),
+      λ c. o ∙ ih .1 (⊎-elim (λ a. inl a) (λ q. inr (q .0, before-last h1 h2 N k n (q .0) (q .1) e (q .2), q .2)) c),
+    ))
     (cases-eq n p)

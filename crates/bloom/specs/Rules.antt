@@ -183,13 +183,13 @@ bloom-rules = record {
   sound-blank = refl;
   sound-cleared = λ s e. sound-from (bloom-kind .cleared s) (record { allowed = e; long = length-replicate (s .size) 0; real = bytes-zeros (s .size) });
   sound-put = λ v x e _ _. let w = whole v e in
-    let s = v .settings in
-    let h = pair-of s x in
-    sound-from (bloom-kind .put v x) (record {
-      allowed = w .allowed;
-      long = length-with-all (h .h1) (h .h2) (8 * s .size) (s .hashing .hashes) (v .table) ∙ w .long;
-      real = bytes-with-all (h .h1) (h .h2) (8 * s .size) (s .hashing .hashes) (v .table) (w .real)
-    });
+      let s = v .settings in
+      let h = pair-of s x in
+      sound-from (bloom-kind .put v x) (record {
+        allowed = w .allowed;
+        long = length-with-all (h .h1) (h .h2) (8 * s .size) (s .hashing .hashes) (v .table) ∙ w .long;
+        real = bytes-with-all (h .h1) (h .h2) (8 * s .size) (s .hashing .hashes) (v .table) (w .real);
+      });
   sound-loaded = λ h body b e. sound-from (bloom-kind .loaded h body) (record { allowed = load-allowed (h .hashes) body e; long = refl; real = b });
   ready-cleared = λ s e. refl;
   ready-put = λ v x _ _ _ _. refl;

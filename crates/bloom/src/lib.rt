@@ -74,7 +74,10 @@ impl Bloom {
         requires { ⌜ bloom-allows (settings .size) (settings .hashing .hashes) ≡ true ⌝ }
         ensures { λ r. ⌜ bloom-view (r .settings) (r .table) ≡ bloom-kind .cleared settings ⌝ }
     {
-        Bloom { table: [0; 2048], settings }
+        Bloom {
+            table: [0; 2048],
+            settings,
+        }
     }
 
     /// Sets the positions of a hash pair in the table in use.
@@ -98,8 +101,15 @@ pub impl Filter for Bloom as BloomFilter {
     ghost sound = { λ b. bloom-sound (b .settings) (b .table) (b .ok .0) (b .ok .1) (b .ok .2) };
 
     fn blank() -> Bloom {
-        let hashing = Hashing { salt: 0, level: 1, hashes: 1 };
-        Bloom { table: [0; 2048], settings: Settings { hashing, size: 1 } }
+        let hashing = Hashing {
+            salt: 0,
+            level: 1,
+            hashes: 1,
+        };
+        Bloom {
+            table: [0; 2048],
+            settings: Settings { hashing, size: 1 },
+        }
     }
 
     fn allows(size: usize, hashes: u8) -> bool {
@@ -121,7 +131,10 @@ pub impl Filter for Bloom as BloomFilter {
     }
 
     fn settings(&self) -> Settings {
-        Settings { hashing: self.settings.hashing, size: self.settings.size }
+        Settings {
+            hashing: self.settings.hashing,
+            size: self.settings.size,
+        }
     }
 
     fn clear(&mut self, settings: Settings) -> Result<(), Refusal> {

@@ -40,14 +40,14 @@ into-some t c zero f u e = absurd (nothing u e)
 into-some t c (suc k) f u e =
     ⊎-elim
     (λ (z : eqb (getD t c 0) 0 ≡ true).
-      let s : c + 0 ≡ c = omega arith in
-      let h : _≡_ {A = Option (List ℕ)} (Some (set t c f)) (Some u) = rw z at e in
-      let v : set t c f ≡ u = cc in
-      (0, omega arith, rw s (eqb-true (getD t c 0) 0 z), rw s (sym v)))
+    let s : c + 0 ≡ c = omega arith in
+    let h : _≡_ {A = Option (List ℕ)} (Some (set t c f)) (Some u) = rw z at e in
+    let v : set t c f ≡ u = cc in
+    (0, omega arith, rw s (eqb-true (getD t c 0) 0 z), rw s (sym v)))
     (λ (z : eqb (getD t c 0) 0 ≡ false).
-      let r = into-some t (c + 1) k f u (rw z at e) in
-      let s : c + suc (r .0) ≡ c + 1 + r .0 = omega arith in
-      (suc (r .0), omega (arith, r .1), rw s (r .2), rw s (r .3)))
+    let r = into-some t (c + 1) k f u (rw z at e) in
+    let s : c + suc (r .0) ≡ c + 1 + r .0 = omega arith in
+    (suc (r .0), omega (arith, r .1), rw s (r .2), rw s (r .3)))
     (cases-bool (eqb (getD t c 0) 0))
 
 -- which cell holds f
@@ -57,9 +57,9 @@ held-at t c (suc k) f e =
     ⊎-elim
     (λ (z : eqb (getD t c 0) f ≡ true). let s : c + 0 ≡ c = omega arith in (0, omega arith, rw s (eqb-true (getD t c 0) f z)))
     (λ (z : holds t (c + 1) k f ≡ true).
-      let r = held-at t (c + 1) k f z in
-      let s : c + suc (r .0) ≡ c + 1 + r .0 = omega arith in
-      (suc (r .0), omega (arith, r .1), rw s (r .2)))
+    let r = held-at t (c + 1) k f z in
+    let s : c + suc (r .0) ≡ c + 1 + r .0 = omega arith in
+    (suc (r .0), omega (arith, r .1), rw s (r .2)))
     (or-cases (eqb (getD t c 0) f) (holds t (c + 1) k f) e)
 
 holds-at : (t : List ℕ) (c k f j : ℕ) → j < k → getD t (c + j) 0 ≡ f → holds t c k f ≡ true
@@ -95,41 +95,40 @@ module _ (mate : ℕ → ℕ → ℕ) (b : ℕ) (low : (i f : ℕ) → i < b →
       let h = getD t c 0 in
       let w : c < length t = omega arith in
       let moved : (p : ℕ) → Stands t p g → Stands (set t c f) p g ⊎ ((h ≡ g) × (i ≡ p)) =
-          λ p s.
-            ⊎-elim
-            (λ (z : 4 * p + s .0 ≡ c). inr (ap (λ (m : ℕ). getD t m 0) (sym z) ∙ s .3, omega (arith, s .1)))
-            (λ (z : 4 * p + s .0 ≡ c → ⊥). inl (s .0, s .1, rw length-set (s .2), rw getD-set-other (s .3)))
-            (cases-eq (4 * p + s .0) c)
+      λ p s.
+      ⊎-elim
+      (λ (z : 4 * p + s .0 ≡ c). inr (ap (λ (m : ℕ). getD t m 0) (sym z) ∙ s .3, omega (arith, s .1)))
+      (λ (z : 4 * p + s .0 ≡ c → ⊥). inl (s .0, s .1, rw length-set (s .2), rw getD-set-other (s .3)))
+      (cases-eq (4 * p + s .0) c)
       in
       ⊎-elim
       (λ stood.
-        ⊎-elim
-        (λ (s : Stands t j g).
-          ⊎-elim (λ a. inl (inl a)) (λ q. inr (q .0, inr (ap (λ (x : ℕ). mate x h) (q .1) ∙ ap (mate j) (q .0)))) (moved j s))
-        (λ (s : Stands t (mate j g) g).
-          ⊎-elim (λ a. inl (inr a)) (λ q. inr (q .0, inl (ap (λ (x : ℕ). mate x h) (q .1) ∙ ap (mate (mate j g)) (q .0) ∙ twice j g at-home))) (moved (mate j g) s))
-        stood)
+      ⊎-elim
+      (λ (s : Stands t j g).
+      ⊎-elim (λ a. inl (inl a)) (λ q. inr (q .0, inr (ap (λ (x : ℕ). mate x h) (q .1) ∙ ap (mate j) (q .0)))) (moved j s))
+      (λ (s : Stands t (mate j g) g).
+      ⊎-elim (λ a. inl (inr a)) (λ q. inr (q .0, inl (ap (λ (x : ℕ). mate x h) (q .1) ∙ ap (mate (mate j g)) (q .0) ∙ twice j g at-home))) (moved (mate j g) s))
+      stood)
       (λ carried.
-        let here : Stands (set t c f) i f = stands-new t i f (n % 4) (omega arith) w in
-        let here' : Stands (set t c f) i g = subst (λ (x : ℕ). Stands (set t c f) i x) (carried .0) here in
-        ⊎-elim (λ (z : i ≡ j). inl (inl (subst (λ (x : ℕ). Stands (set t c f) x g) z here'))) (λ (z : i ≡ mate j g). inl (inr (subst (λ (x : ℕ). Stands (set t c f) x g) z here'))) (carried .1))
+      let here : Stands (set t c f) i f = stands-new t i f (n % 4) (omega arith) w in
+      let here' : Stands (set t c f) i g = subst (λ (x : ℕ). Stands (set t c f) i x) (carried .0) here in
+      ⊎-elim (λ (z : i ≡ j). inl (inl (subst (λ (x : ℕ). Stands (set t c f) x g) z here'))) (λ (z : i ≡ mate j g). inl (inr (subst (λ (x : ℕ). Stands (set t c f) x g) z here'))) (carried .1))
       k
 
   -- the carried one comes to rest
   rested : (t : List ℕ) (i f j g : ℕ) (u : List ℕ) → length t ≡ 4 * b → i < b → (g ≡ 0 → ⊥) → put-into t (4 * i) 4 f ≡ Some u → Kept t f i j g → At u j g
-
   rested t i f j g u long l some e k =
       let r = into-some t (4 * i) 4 f u e in
       let c = 4 * i + r .0 in
       let zero-there : getD t c 0 ≡ g → ⊥ = λ (z : getD t c 0 ≡ g). some (sym z ∙ r .2) in
       rw (r .3)
       (⊎-elim
-        (λ stood. ⊎-elim (λ s. inl (stands-set t j g c f zero-there s)) (λ s. inr (stands-set t (mate j g) g c f zero-there s)) stood)
-        (λ carried.
-          let here : Stands (set t c f) i f = stands-new t i f (r .0) (r .1) (omega (arith, r .1)) in
-          let here' : Stands (set t c f) i g = subst (λ (x : ℕ). Stands (set t c f) i x) (carried .0) here in
-          ⊎-elim (λ (z : i ≡ j). inl (subst (λ (x : ℕ). Stands (set t c f) x g) z here')) (λ (z : i ≡ mate j g). inr (subst (λ (x : ℕ). Stands (set t c f) x g) z here')) (carried .1))
-        k)
+      (λ stood. ⊎-elim (λ s. inl (stands-set t j g c f zero-there s)) (λ s. inr (stands-set t (mate j g) g c f zero-there s)) stood)
+      (λ carried.
+      let here : Stands (set t c f) i f = stands-new t i f (r .0) (r .1) (omega (arith, r .1)) in
+      let here' : Stands (set t c f) i g = subst (λ (x : ℕ). Stands (set t c f) i x) (carried .0) here in
+      ⊎-elim (λ (z : i ≡ j). inl (subst (λ (x : ℕ). Stands (set t c f) x g) z here')) (λ (z : i ≡ mate j g). inr (subst (λ (x : ℕ). Stands (set t c f) x g) z here')) (carried .1))
+      k)
 
   go : (t : List ℕ) (i f : ℕ) (o later : Option (List ℕ)) (u : List ℕ) (j g : ℕ) → o ≡ put-into t (4 * i) 4 f → length t ≡ 4 * b → i < b → (g ≡ 0 → ⊥) → or-else o later ≡ Some u → Kept t f i j g → (later ≡ Some u → At u j g) → At u j g
   go t i f (Some v) later u j g q long l some e k rec = let z : v ≡ u = cc in rested t i f j g u long l some (sym q ∙ ap Some z) k
@@ -162,19 +161,19 @@ module _ (mate : ℕ → ℕ → ℕ) (b : ℕ) (low : (i f : ℕ) → i < b →
       let beside : Kept t f (mate i f) j g = ⊎-elim (λ a. inl a) (λ c. inr (c .0, inr (ap (λ (x : ℕ). mate x f) (c .1) ∙ ap (mate j) (c .0)))) h in
       ⊎-elim
       (λ (z : stands mate t i f ≡ true).
-        let q : _≡_ {A = Option (List ℕ)} (Some t) (Some u) = sym (cond-true (stands mate t i f) (Some t) (or-else (settled mate t i f) (kicked mate 64 0 i f t)) z) ∙ e in
-        let same : t ≡ u = cc in
-        rw (sym same) (⊎-elim (λ a. a) (λ c. subst (λ (x : ℕ). At t x g) (c .1) (subst (λ (x : ℕ). At t i x) (c .0) (at-stands t i f long l z))) h))
+      let q : _≡_ {A = Option (List ℕ)} (Some t) (Some u) = sym (cond-true (stands mate t i f) (Some t) (or-else (settled mate t i f) (kicked mate 64 0 i f t)) z) ∙ e in
+      let same : t ≡ u = cc in
+      rw (sym same) (⊎-elim (λ a. a) (λ c. subst (λ (x : ℕ). At t x g) (c .1) (subst (λ (x : ℕ). At t i x) (c .0) (at-stands t i f long l z))) h))
       (λ (z : stands mate t i f ≡ false).
-        let q : or-else (settled mate t i f) (kicked mate 64 0 i f t) ≡ Some u = sym (cond-false (stands mate t i f) (Some t) (or-else (settled mate t i f) (kicked mate 64 0 i f t)) z) ∙ e in
-        ⊎-elim
-        (λ (s : settled mate t i f ≡ Some u).
-          ⊎-elim
-          (λ (p : put-into t (4 * i) 4 f ≡ Some u). rested t i f j g u long l some p kept)
-          (λ (p : put-into t (4 * mate i f) 4 f ≡ Some u). rested t (mate i f) f j g u long (low i f l) some p beside)
-          (some-of (put-into t (4 * i) 4 f) (put-into t (4 * mate i f) 4 f) u s))
-        (λ (s : kicked mate 64 0 i f t ≡ Some u). kicks-keep 64 0 i f t u long l s j g at-home some kept)
-        (some-of (settled mate t i f) (kicked mate 64 0 i f t) u q))
+      let q : or-else (settled mate t i f) (kicked mate 64 0 i f t) ≡ Some u = sym (cond-false (stands mate t i f) (Some t) (or-else (settled mate t i f) (kicked mate 64 0 i f t)) z) ∙ e in
+      ⊎-elim
+      (λ (s : settled mate t i f ≡ Some u).
+      ⊎-elim
+      (λ (p : put-into t (4 * i) 4 f ≡ Some u). rested t i f j g u long l some p kept)
+      (λ (p : put-into t (4 * mate i f) 4 f ≡ Some u). rested t (mate i f) f j g u long (low i f l) some p beside)
+      (some-of (put-into t (4 * i) 4 f) (put-into t (4 * mate i f) 4 f) u s))
+      (λ (s : kicked mate 64 0 i f t ≡ Some u). kicks-keep 64 0 i f t u long l s j g at-home some kept)
+      (some-of (settled mate t i f) (kicked mate 64 0 i f t) u q))
       (cases-bool (stands mate t i f))
 
   -- a table of bytes, n long
@@ -204,14 +203,14 @@ module _ (mate : ℕ → ℕ → ℕ) (b : ℕ) (low : (i f : ℕ) → i < b →
   stored-sized n t u i f l s e =
       ⊎-elim
       (λ (z : stands mate t i f ≡ true).
-        let q : _≡_ {A = Option (List ℕ)} (Some t) (Some u) = sym (cond-true (stands mate t i f) (Some t) (or-else (settled mate t i f) (kicked mate 64 0 i f t)) z) ∙ e in
-        let same : t ≡ u = cc in
-        rw (sym same) s)
+      let q : _≡_ {A = Option (List ℕ)} (Some t) (Some u) = sym (cond-true (stands mate t i f) (Some t) (or-else (settled mate t i f) (kicked mate 64 0 i f t)) z) ∙ e in
+      let same : t ≡ u = cc in
+      rw (sym same) s)
       (λ (z : stands mate t i f ≡ false).
-        let q : or-else (settled mate t i f) (kicked mate 64 0 i f t) ≡ Some u = sym (cond-false (stands mate t i f) (Some t) (or-else (settled mate t i f) (kicked mate 64 0 i f t)) z) ∙ e in
-        ⊎-elim
-        (λ (p : settled mate t i f ≡ Some u).
-          ⊎-elim (λ r. sized-into n t u (4 * i) 4 f l s r) (λ r. sized-into n t u (4 * mate i f) 4 f l s r) (some-of (put-into t (4 * i) 4 f) (put-into t (4 * mate i f) 4 f) u p))
-        (λ (p : kicked mate 64 0 i f t ≡ Some u). sized-kicked n 64 0 i f t u l s p)
-        (some-of (settled mate t i f) (kicked mate 64 0 i f t) u q))
+      let q : or-else (settled mate t i f) (kicked mate 64 0 i f t) ≡ Some u = sym (cond-false (stands mate t i f) (Some t) (or-else (settled mate t i f) (kicked mate 64 0 i f t)) z) ∙ e in
+      ⊎-elim
+      (λ (p : settled mate t i f ≡ Some u).
+      ⊎-elim (λ r. sized-into n t u (4 * i) 4 f l s r) (λ r. sized-into n t u (4 * mate i f) 4 f l s r) (some-of (put-into t (4 * i) 4 f) (put-into t (4 * mate i f) 4 f) u p))
+      (λ (p : kicked mate 64 0 i f t ≡ Some u). sized-kicked n 64 0 i f t u l s p)
+      (some-of (settled mate t i f) (kicked mate 64 0 i f t) u q))
       (cases-bool (stands mate t i f))

@@ -37,15 +37,15 @@ one (suc d) n l e =
     let s = ones-step n in
     ⊎-elim
     (λ (p : n % 2 < 1).
-      let h : ones (n / 2) ≡ 1 = omega arith in
-      let pos : 1 ≤ n = ⊎-elim (λ (q : n < 1). let z : n ≡ 0 = omega arith in let t : ones n ≡ 0 = ap ones z ∙ zero-ones in absurd (omega arith)) (λ q. q) (cases-lt n 1) in
-      let r = one d (n / 2) (omega arith) h in
-      let w = pow-suc 2 (r .0) in
-      (suc (r .0), omega (arith, r .1)))
+    let h : ones (n / 2) ≡ 1 = omega arith in
+    let pos : 1 ≤ n = ⊎-elim (λ (q : n < 1). let z : n ≡ 0 = omega arith in let t : ones n ≡ 0 = ap ones z ∙ zero-ones in absurd (omega arith)) (λ q. q) (cases-lt n 1) in
+    let r = one d (n / 2) (omega arith) h in
+    let w = pow-suc 2 (r .0) in
+    (suc (r .0), omega (arith, r .1)))
     (λ (p : 1 ≤ n % 2).
-      let h : ones (n / 2) ≡ 0 = omega arith in
-      let z = none n (n / 2) (omega arith) h in
-      (0, omega arith))
+    let h : ones (n / 2) ≡ 0 = omega arith in
+    let z = none n (n / 2) (omega arith) h in
+    (0, omega arith))
     (cases-lt (n % 2) 1)
 
 power-ones : (k : ℕ) → ones (2 ^ k) ≡ 1

@@ -114,7 +114,7 @@ module _ (s : Settings) (ok : cuckoo-allows (s .size) (s .hashing .hashes) ≡ t
       let r = ranges (s .size) (s .hashing .hashes) ok in
       stands-at (partner (buckets s)) (buckets s) mates-low (λ i f _. partner-twice (buckets s) i f) u (home s y) (print s y)
       (put-keeps t u x long e (home s y) (print s y) (home-low y) (print-some y)
-        (inl (at-stands (partner (buckets s)) (buckets s) mates-low (λ i f _. partner-twice (buckets s) i f) t (home s y) (print s y) (omega arith) (home-low y) h)))
+      (inl (at-stands (partner (buckets s)) (buckets s) mates-low (λ i f _. partner-twice (buckets s) i f) t (home s y) (print s y) (omega arith) (home-low y) h)))
 
   pub put-sized : (t u : List ℕ) (h : HashPair) → length t ≡ s .size → bytes t ≡ true → stored-pair (record { settings = s; cells = t }) h ≡ Some u → (length u ≡ s .size) × (bytes u ≡ true)
   put-sized t u h long real e = stored-sized (partner (buckets s)) (buckets s) mates-low (λ i f _. partner-twice (buckets s) i f) (s .size) t u (bucket-of s h) (fingerprint (h .h2)) (omega arith) (long, real) e

@@ -19,7 +19,10 @@ pub(crate) fn place_of(pair: HashPair, b: usize) -> Place
     requires { ⌜ (1 ≤ b) × (b ≤ 512) ⌝ }
     ensures { λ r. ⌜ (r .bucket ≡ pair .h1 % b) × (r .fingerprint ≡ fingerprint (pair .h2)) ⌝ }
 {
-    Place { bucket: pair.h1 as usize % b, fingerprint: 1 + (pair.h2 % 255) as u8 }
+    Place {
+        bucket: pair.h1 as usize % b,
+        fingerprint: 1 + (pair.h2 % 255) as u8,
+    }
 }
 
 /// The partner of bucket i for a fingerprint, among b buckets.

@@ -49,7 +49,10 @@ impl Cuckoo {
         requires { ⌜ cuckoo-allows (settings .size) (settings .hashing .hashes) ≡ true ⌝ }
         ensures { λ r. ⌜ cuckoo-view (r .settings) (r .cells) ≡ cuckoo-kind .cleared settings ⌝ }
     {
-        Cuckoo { cells: [0; 2048], settings }
+        Cuckoo {
+            cells: [0; 2048],
+            settings,
+        }
     }
 
     /// Puts the fingerprint of a hash pair, and says whether it was taken.
@@ -85,8 +88,15 @@ pub impl Filter for Cuckoo as CuckooFilter {
     ghost sound = { λ c. cuckoo-sound (c .settings) (c .cells) (c .ok .0) (c .ok .1) (c .ok .2) };
 
     fn blank() -> Cuckoo {
-        let hashing = Hashing { salt: 0, level: 1, hashes: 1 };
-        Cuckoo { cells: [0; 2048], settings: Settings { hashing, size: 4 } }
+        let hashing = Hashing {
+            salt: 0,
+            level: 1,
+            hashes: 1,
+        };
+        Cuckoo {
+            cells: [0; 2048],
+            settings: Settings { hashing, size: 4 },
+        }
     }
 
     fn allows(size: usize, hashes: u8) -> bool {
@@ -108,7 +118,10 @@ pub impl Filter for Cuckoo as CuckooFilter {
     }
 
     fn settings(&self) -> Settings {
-        Settings { hashing: self.settings.hashing, size: self.settings.size }
+        Settings {
+            hashing: self.settings.hashing,
+            size: self.settings.size,
+        }
     }
 
     fn clear(&mut self, settings: Settings) -> Result<(), Refusal> {

@@ -42,14 +42,26 @@ impl<'a> Reader<'a> {
     {
         let place = self.at;
         if self.input.len() - place < 3 {
-            return Err(Refusal { reason: Reason::CutShort, tag: due, place });
+            return Err(Refusal {
+                reason: Reason::CutShort,
+                tag: due,
+                place,
+            });
         }
         if self.input[place] != due {
-            return Err(Refusal { reason: Reason::WrongTag, tag: due, place });
+            return Err(Refusal {
+                reason: Reason::WrongTag,
+                tag: due,
+                place,
+            });
         }
         let len = self.input[place + 1] as usize * 256 + self.input[place + 2] as usize;
         self.at = place + 3;
-        Ok(Header { tag: due, place, len })
+        Ok(Header {
+            tag: due,
+            place,
+            len,
+        })
     }
 
     /// Reads the body behind a header.
@@ -60,7 +72,11 @@ impl<'a> Reader<'a> {
     {
         let start = self.at;
         if self.input.len() - start < header.len {
-            return Err(Refusal { reason: Reason::CutShort, tag: header.tag, place: header.place });
+            return Err(Refusal {
+                reason: Reason::CutShort,
+                tag: header.tag,
+                place: header.place,
+            });
         }
         let end = start + header.len;
         self.at = end;

@@ -32,11 +32,11 @@ module _ {V : Type 0} (k : Kind V) (hashes : ℕ) (body : List ℕ) where
       let inner = cond (k .measures (length body)) (content-reason (k .judges body)) (Some BadLength) in
       ⊎-elim
       (λ (a : hashes-allowed hashes ≡ true).
-        let f : inner ≡ None = sym (cond-true (hashes-allowed hashes) inner (Some BadSetting) a) ∙ e in
-        ⊎-elim
-        (λ (b : k .measures (length body) ≡ true). record { counted = a; measured = b; well = sym (cond-true (k .measures (length body)) (content-reason (k .judges body)) (Some BadLength) b) ∙ f })
-        (λ (b : k .measures (length body) ≡ false). absurd (some-none BadLength (sym (cond-false (k .measures (length body)) (content-reason (k .judges body)) (Some BadLength) b) ∙ f)))
-        (cases-bool (k .measures (length body))))
+      let f : inner ≡ None = sym (cond-true (hashes-allowed hashes) inner (Some BadSetting) a) ∙ e in
+      ⊎-elim
+      (λ (b : k .measures (length body) ≡ true). record { counted = a; measured = b; well = sym (cond-true (k .measures (length body)) (content-reason (k .judges body)) (Some BadLength) b) ∙ f })
+      (λ (b : k .measures (length body) ≡ false). absurd (some-none BadLength (sym (cond-false (k .measures (length body)) (content-reason (k .judges body)) (Some BadLength) b) ∙ f)))
+      (cases-bool (k .measures (length body))))
       (λ (a : hashes-allowed hashes ≡ false). absurd (some-none BadSetting (sym (cond-false (hashes-allowed hashes) inner (Some BadSetting) a) ∙ e)))
       (cases-bool (hashes-allowed hashes))
 

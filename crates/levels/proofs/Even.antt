@@ -48,7 +48,7 @@ end-even k = record {
 pub level-even : {V S : Type 0} (k : Kind V) (d : Decides S) (m : ℕ) → m < 255 → Even-for d m → Even-for (level-decides k d) (m + 1)
 level-even {V} {S} k d m l e =
     let at : (s : Over V S) (x : List ℕ) → Even-at (level-decides k d .decides s x) (m + 1) =
-        λ s x. turned-even (k .says (s .filter) x) (d .decides (s .below) x) m l
-          (record { even = e .even (s .below) x; odd = e .odd (s .below) x; some = e .some (s .below) x; most = e .most (s .below) x })
+    λ s x. turned-even (k .says (s .filter) x) (d .decides (s .below) x) m l
+    (record { even = e .even (s .below) x; odd = e .odd (s .below) x; some = e .some (s .below) x; most = e .most (s .below) x })
     in
     record { even = λ s x. at s x .even; odd = λ s x. at s x .odd; some = λ s x. at s x .some; most = λ s x. at s x .most }

@@ -83,12 +83,12 @@ module _ {V : Type 0} (k : Kind V) (rules : Rules k) where
       let others : Lawful-rows rs = λ q m. l q (inr m) in
       ⊎-elim
       (λ (yes1 : eqb (r .mark) 1 ≡ true).
-        ⊎-elim
-        (λ (t : k .takes v (r .form) ≡ true).
-          put-in v w r rs g d here (eqb-true (r .mark) 1 yes1) t
-          (filled (k .put v (r .form)) w (i + 1) rs (rules .sound-put v (r .form) g here t) (rules .ready-put v (r .form) g here t d) others (rw (yes1, t) at e)))
-        (λ (t : k .takes v (r .form) ≡ false). absurd (never i w (rw (yes1, t) at e)))
-        (cases-bool (k .takes v (r .form))))
+      ⊎-elim
+      (λ (t : k .takes v (r .form) ≡ true).
+      put-in v w r rs g d here (eqb-true (r .mark) 1 yes1) t
+      (filled (k .put v (r .form)) w (i + 1) rs (rules .sound-put v (r .form) g here t) (rules .ready-put v (r .form) g here t d) others (rw (yes1, t) at e)))
+      (λ (t : k .takes v (r .form) ≡ false). absurd (never i w (rw (yes1, t) at e)))
+      (cases-bool (k .takes v (r .form))))
       (λ (no1 : eqb (r .mark) 1 ≡ false). skipped v w r rs no1 (filled v w (i + 1) rs g d others (rw no1 at e)))
       (cases-bool (eqb (r .mark) 1))
 
@@ -101,7 +101,7 @@ module _ {V : Type 0} (k : Kind V) (rules : Rules k) where
   begun-filled s rs w l e =
       ⊎-elim
       (λ (a : allowed k s ≡ true).
-        (a, filled (k .cleared s) w 0 rs (rules .sound-cleared s a) (rules .ready-cleared s a) l (placed-ok (s .hashing .level) _ w (sym (cond-true (allowed k s) _ _ a) ∙ e))))
+      (a, filled (k .cleared s) w 0 rs (rules .sound-cleared s a) (rules .ready-cleared s a) l (placed-ok (s .hashing .level) _ w (sym (cond-true (allowed k s) _ _ a) ∙ e))))
       (λ (a : allowed k s ≡ false). absurd (never (plain BadSetting) w (sym (cond-false (allowed k s) _ _ a) ∙ e)))
       (cases-bool (allowed k s))
 
@@ -155,15 +155,15 @@ module _ {V : Type 0} (k : Kind V) (rules : Rules k) where
       record {
         for = λ z. rw (b .1 .each r m z);
         against = λ z.
-          let off : k .says w (r .form) ≡ false =
-              ⊎-elim
-              (λ (y : k .says w (r .form) ≡ true).
-                absurd (both-ways _ (rules .none-cleared (at-size h 1536) (r .form) (b .0) (l r m))
-                  (b .1 .alone alone (r .form) (l r m) (λ o n one same. let marks = d o r n m same in omega arith) y)))
-              (λ y. y)
-              (cases-bool (k .says w (r .form)))
-          in
-          rw off;
+            let off : k .says w (r .form) ≡ false =
+            ⊎-elim
+            (λ (y : k .says w (r .form) ≡ true).
+            absurd (both-ways _ (rules .none-cleared (at-size h 1536) (r .form) (b .0) (l r m))
+            (b .1 .alone alone (r .form) (l r m) (λ o n one same. let marks = d o r n m same in omega arith) y)))
+            (λ y. y)
+            (cases-bool (k .says w (r .form)))
+            in
+            rw off;
       }
 
   end-restores : (h : Hashing) (rs : List Row) (w : V) → Lawful-rows rs → begun k (at-size h 1536) rs ≡ Ok w → (front back : List ℕ) → Restores (end-decides k) h w front back
@@ -174,8 +174,8 @@ module _ {V : Type 0} (k : Kind V) (rules : Rules k) where
       record {
         state = k .loaded h (k .saved w);
         loaded =
-          ap (λ (t : Result (List ℕ) Refusal). then t (λ body. Ok (k .loaded h body, length front + 3 + length body))) (r .table tag front back)
-          ∙ ap (λ (p : ℕ). Ok (k .loaded h (k .saved w), p)) (let q : length front + 3 + length (k .saved w) ≡ length front + length (field tag (k .saved w)) = omega arith in q);
+            ap (λ (t : Result (List ℕ) Refusal). then t (λ body. Ok (k .loaded h body, length front + 3 + length body))) (r .table tag front back)
+            ∙ ap (λ (p : ℕ). Ok (k .loaded h (k .saved w), p)) (let q : length front + 3 + length (k .saved w) ≡ length front + length (field tag (k .saved w)) = omega arith in q);
         alike = λ x lx. rw (r .says x lx);
       }
 
@@ -214,16 +214,16 @@ module _ {V : Type 0} (k : Kind V) (rules : Rules k) where
       let sub = keeps .right (deeper h) (b .rest) (map (turn k w) rs) (s .below) (turn-distinct w rs dis) (turn-lawful w rs l) (b .below) (turn k w r) (in-map (turn k w) r rs m) in
       record {
         for = λ z.
-          let one : eqb (r .mark) 1 ≡ true = eq-eqb (r .mark) 1 z in
-          let h2 : remark k w r ≡ 2 = rw one in
-          rw (f .1 .each r m z, sub .against h2);
+            let one : eqb (r .mark) 1 ≡ true = eq-eqb (r .mark) 1 z in
+            let h2 : remark k w r ≡ 2 = rw one in
+            rw (f .1 .each r m z, sub .against h2);
         against = λ z.
-          let not1 : eqb (r .mark) 1 ≡ false = rw z in
-          let two : eqb (r .mark) 2 ≡ true = eq-eqb (r .mark) 2 z in
-          ⊎-elim
-          (λ (y : k .says w (r .form) ≡ true). let u : remark k w r ≡ 1 = rw (not1, two, y) in rw (y, sub .for u))
-          (λ (y : k .says w (r .form) ≡ false). rw y)
-          (cases-bool (k .says w (r .form)));
+            let not1 : eqb (r .mark) 1 ≡ false = rw z in
+            let two : eqb (r .mark) 2 ≡ true = eq-eqb (r .mark) 2 z in
+            ⊎-elim
+            (λ (y : k .says w (r .form) ≡ true). let u : remark k w r ≡ 1 = rw (not1, two, y) in rw (y, sub .for u))
+            (λ (y : k .says w (r .form) ≡ false). rw y)
+            (cases-bool (k .says w (r .form)));
       }
 
   level-restores : {S : Type 0} (d : Decides S) → Keeps d → (h : Hashing) (sizes : List ℕ) (rs : List Row) (s : Over V S) → Lawful-rows rs → Built d h sizes rs s → (front back : List ℕ) → Restores (level-decides k d) h s front back
@@ -240,19 +240,19 @@ module _ {V : Type 0} (k : Kind V) (rules : Rules k) where
       let two : (front ++ mine) ++ (more ++ back) ≡ input = append-assoc front mine (more ++ back) ∙ sym one in
       let size : length (front ++ mine) ≡ length front + 3 + length body = length-append front mine ∙ (let n = length-field tag body in let q : length front + length mine ≡ length front + 3 + length body = omega arith in q) in
       let found : d .loads (deeper h) input (length front + 3 + length body) ≡ Ok (low .state, length (front ++ mine) + length more) =
-          ap (d .loads (deeper h) input) (sym size) ∙ ap (λ (t : List ℕ). d .loads (deeper h) t (length (front ++ mine))) (sym two) ∙ low .loaded
+      ap (d .loads (deeper h) input) (sym size) ∙ ap (λ (t : List ℕ). d .loads (deeper h) t (length (front ++ mine))) (sym two) ∙ low .loaded
       in
       let wholly : length (front ++ mine) + length more ≡ length front + length (mine ++ more) =
-          let p = length-append front mine in let q = length-append mine more in omega arith
+      let p = length-append front mine in let q = length-append mine more in omega arith
       in
       let go : List ℕ → Result (Over V S × ℕ) Refusal = λ t. then (d .loads (deeper h) input (length front + 3 + length t)) (λ p. Ok (record { filter = k .loaded h t; below = p .0 }, p .1)) in
       record {
         state = record { filter = k .loaded h body; below = low .state };
         loaded =
-          ap (λ (t : List ℕ). then (table-at k tag (h .hashes) t (length front)) go) one
-          ∙ ap (λ (t : Result (List ℕ) Refusal). then t go) (r .table tag front (more ++ back))
-          ∙ ap (λ (t : Result (S × ℕ) Refusal). then t (λ p. Ok (record { filter = k .loaded h body; below = p .0 }, p .1))) found
-          ∙ ap (λ (p : ℕ). Ok (record { filter = k .loaded h body; below = low .state }, p)) wholly;
+            ap (λ (t : List ℕ). then (table-at k tag (h .hashes) t (length front)) go) one
+            ∙ ap (λ (t : Result (List ℕ) Refusal). then t go) (r .table tag front (more ++ back))
+            ∙ ap (λ (t : Result (S × ℕ) Refusal). then t (λ p. Ok (record { filter = k .loaded h body; below = p .0 }, p .1))) found
+            ∙ ap (λ (p : ℕ). Ok (record { filter = k .loaded h body; below = low .state }, p)) wholly;
         alike = λ x lx. rw (r .says x lx, low .alike x lx);
       }
 

@@ -31,14 +31,14 @@ header-place input at due h e =
     ⊎-elim
     (λ (a : ltb (length input - at) 3 ≡ true). absurd (never (refused CutShort due at) h (sym (cond-true (ltb (length input - at) 3) _ _ a) ∙ e)))
     (λ (a : ltb (length input - at) 3 ≡ false).
-      let f = sym (cond-false (ltb (length input - at) 3) _ _ a) ∙ e in
-      ⊎-elim
-      (λ (b : eqb (getD input at 0) due ≡ true).
-        let g = sym (cond-true (eqb (getD input at 0) due) _ _ b) ∙ f in
-        let q : _≡_ {A = Header} (record { tag = due; place = at; len = getD input (at + 1) 0 * 256 + getD input (at + 2) 0 }) h = cc in
-        sym (ap (λ (x : Header). x .place) q))
-      (λ (b : eqb (getD input at 0) due ≡ false). absurd (never (refused WrongTag due at) h (sym (cond-false (eqb (getD input at 0) due) _ _ b) ∙ f)))
-      (cases-bool (eqb (getD input at 0) due)))
+    let f = sym (cond-false (ltb (length input - at) 3) _ _ a) ∙ e in
+    ⊎-elim
+    (λ (b : eqb (getD input at 0) due ≡ true).
+    let g = sym (cond-true (eqb (getD input at 0) due) _ _ b) ∙ f in
+    let q : _≡_ {A = Header} (record { tag = due; place = at; len = getD input (at + 1) 0 * 256 + getD input (at + 2) 0 }) h = cc in
+    sym (ap (λ (x : Header). x .place) q))
+    (λ (b : eqb (getD input at 0) due ≡ false). absurd (never (refused WrongTag due at) h (sym (cond-false (eqb (getD input at 0) due) _ _ b) ∙ f)))
+    (cases-bool (eqb (getD input at 0) due)))
     (cases-bool (ltb (length input - at) 3))
 
 body-length : (input : List ℕ) (at : ℕ) (h : Header) (b : List ℕ) → body-at input at h ≡ Ok b → length b ≡ h .len
@@ -46,10 +46,10 @@ body-length input at h b e =
     ⊎-elim
     (λ (a : ltb (length input - at) (h .len) ≡ true). absurd (never (refused CutShort (h .tag) (h .place)) b (sym (cond-true (ltb (length input - at) (h .len)) _ _ a) ∙ e)))
     (λ (a : ltb (length input - at) (h .len) ≡ false).
-      let f = sym (cond-false (ltb (length input - at) (h .len)) _ _ a) ∙ e in
-      let q : take (h .len) (drop at input) ≡ b = cc in
-      let l = ltb-false (length input - at) (h .len) a in
-      ap length (sym q) ∙ simp (length-take, length-drop) (omega arith))
+    let f = sym (cond-false (ltb (length input - at) (h .len)) _ _ a) ∙ e in
+    let q : take (h .len) (drop at input) ≡ b = cc in
+    let l = ltb-false (length input - at) (h .len) a in
+    ap length (sym q) ∙ simp (length-take, length-drop) (omega arith))
     (cases-bool (ltb (length input - at) (h .len)))
 
 -- one reading: the header, the body behind it, and the judgement
@@ -103,8 +103,8 @@ module _ {V : Type 0} (k : Kind V) (tag hashes at : ℕ) (input : List ℕ) wher
       let h = t .0 in
       ⊎-elim
       (λ (m : k .measures (h .len) ≡ true).
-        let u = then-ok (body-at input (at + 3) h) (λ b. judged-in k tag at b (judged k hashes b)) body (sym (cond-true (k .measures (h .len)) _ _ m) ∙ t .2) in
-        judged-of (u .0) body (judged k hashes (u .0)) refl (u .2))
+      let u = then-ok (body-at input (at + 3) h) (λ b. judged-in k tag at b (judged k hashes b)) body (sym (cond-true (k .measures (h .len)) _ _ m) ∙ t .2) in
+      judged-of (u .0) body (judged k hashes (u .0)) refl (u .2))
       (λ (m : k .measures (h .len) ≡ false). absurd (never (refused BadLength tag at) body (sym (cond-false (k .measures (h .len)) _ _ m) ∙ t .2)))
       (cases-bool (k .measures (h .len)))
 

@@ -64,10 +64,10 @@ module _ {S : Type 0} (d : Decides S) (h : Hashing) (sizes : List ℕ) (rs : Lis
         at = g .at ∙ ap (salt-at (h .salt)) e;
         built = g .built;
         before = λ j l.
-          ⊎-elim
-          (λ (z : j < 1). let w : i + j ≡ i = omega arith in rw w f)
-          (λ (z : 1 ≤ j). let w : i + j ≡ i + 1 + (j - 1) = omega arith in rw w (g .before (j - 1) (omega arith)))
-          (cases-lt j 1);
+            ⊎-elim
+            (λ (z : j < 1). let w : i + j ≡ i = omega arith in rw w f)
+            (λ (z : 1 ≤ j). let w : i + j ≡ i + 1 + (j - 1) = omega arith in rw w (g .before (j - 1) (omega arith)))
+            (cases-lt j 1);
       }
 
   last-try : (i salt : ℕ) (s : S) (t : Result S Refusal) → d .build (at-salt h (salt-at (h .salt) i)) sizes rs ≡ t → tried d h sizes rs (salt-at (h .salt) i) t ≡ Ok (salt, s) → Found i 0 salt s
@@ -102,10 +102,10 @@ module _ {S : Type 0} (d : Decides S) (h : Hashing) (sizes : List ℕ) (rs : Lis
       let w : i + suc n ≡ i + 1 + n = omega arith in
       record {
         all = λ j l.
-          ⊎-elim
-          (λ (z : j < 1). let v : i + j ≡ i = omega arith in rw v (f, b))
-          (λ (z : 1 ≤ j). let v : i + j ≡ i + 1 + (j - 1) = omega arith in rw v (g .all (j - 1) (omega arith)))
-          (cases-lt j 1);
+            ⊎-elim
+            (λ (z : j < 1). let v : i + j ≡ i = omega arith in rw v (f, b))
+            (λ (z : 1 ≤ j). let v : i + j ≡ i + 1 + (j - 1) = omega arith in rw v (g .all (j - 1) (omega arith)))
+            (cases-lt j 1);
         last = rw w (g .last);
       }
 
@@ -117,19 +117,19 @@ module _ {S : Type 0} (d : Decides S) (h : Hashing) (sizes : List ℕ) (rs : Lis
 pub outcome : {S : Type 0} (d : Decides S) → Outcome d
 outcome d = record {
   succeeds = λ h sizes rs salt s low e.
-    let start : salt-at (h .salt) 0 ≡ h .salt = omega arith in
-    let f = found d h sizes rs 7 0 salt s (ap (retried d h sizes rs 7) start ∙ e) in
-    let few = f .few in
-    let z : 0 + f .more ≡ f .more = omega arith in
-    record {
-      tries = f .more;
-      few = omega arith;
-      at = f .at ∙ ap (salt-at (h .salt)) z;
-      built = f .built;
-      before = λ i l. let b = f .before i l in let y : 0 + i ≡ i = omega arith in rw y at b;
-    };
+      let start : salt-at (h .salt) 0 ≡ h .salt = omega arith in
+      let f = found d h sizes rs 7 0 salt s (ap (retried d h sizes rs 7) start ∙ e) in
+      let few = f .few in
+      let z : 0 + f .more ≡ f .more = omega arith in
+      record {
+        tries = f .more;
+        few = omega arith;
+        at = f .at ∙ ap (salt-at (h .salt)) z;
+        built = f .built;
+        before = λ i l. let b = f .before i l in let y : 0 + i ≡ i = omega arith in rw y at b;
+      };
   fails = λ h sizes rs e low q.
-    let start : salt-at (h .salt) 0 ≡ h .salt = omega arith in
-    let f = lost d h sizes rs 7 0 e (ap (retried d h sizes rs 7) start ∙ q) in
-    record { all = λ i l. let b = f .all i (omega arith) in let y : 0 + i ≡ i = omega arith in rw y at b; last = f .last };
+      let start : salt-at (h .salt) 0 ≡ h .salt = omega arith in
+      let f = lost d h sizes rs 7 0 e (ap (retried d h sizes rs 7) start ∙ q) in
+      record { all = λ i l. let b = f .all i (omega arith) in let y : 0 + i ≡ i = omega arith in rw y at b; last = f .last };
 }

@@ -50,9 +50,9 @@ wrote bs out now-out n e =
     let snd : Option ℕ × List ℕ → List ℕ = λ p. p .1 in
     ⊎-elim
     (λ (t : leb (length bs) (length out) ≡ true).
-      let f = e ∙ cond-true (leb (length bs) (length out)) yes-way no-way t in
-      let a = ap fst f in
-      record { size = cc; room = leb-true (length bs) (length out) t; bytes = ap snd f })
+    let f = e ∙ cond-true (leb (length bs) (length out)) yes-way no-way t in
+    let a = ap fst f in
+    record { size = cc; room = leb-true (length bs) (length out) t; bytes = ap snd f })
     (λ (t : leb (length bs) (length out) ≡ false). absurd (none-some n (ap fst (e ∙ cond-false (leb (length bs) (length out)) yes-way no-way t))))
     (cases-bool (leb (length bs) (length out)))
 
@@ -107,12 +107,12 @@ chain mine more out out1 part n m v w =
       size = omega arith;
       room = omega arith;
       bytes =
-        ap (λ (t : List ℕ). take n out1 ++ (part ++ t)) ends
-        ∙ ap (λ (t : List ℕ). take n out1 ++ t) (append-nil part)
-        ∙ ap (λ (t : List ℕ). t ++ part) front
-        ∙ ap (λ (t : List ℕ). mine ++ t) last
-        ∙ sym (append-assoc mine more (drop (length mine + length more) out))
-        ∙ ap (λ (k : ℕ). (mine ++ more) ++ drop k out) (sym whole);
+          ap (λ (t : List ℕ). take n out1 ++ (part ++ t)) ends
+          ∙ ap (λ (t : List ℕ). take n out1 ++ t) (append-nil part)
+          ∙ ap (λ (t : List ℕ). t ++ part) front
+          ∙ ap (λ (t : List ℕ). mine ++ t) last
+          ∙ sym (append-assoc mine more (drop (length mine + length more) out))
+          ∙ ap (λ (k : ℕ). (mine ++ more) ++ drop k out) (sym whole);
     }
 
 -- the header of a field, from the low sixteen bits of the length

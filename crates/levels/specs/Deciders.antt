@@ -90,9 +90,9 @@ module _ {V : Type 0} (k : Kind V) where
   unfoldable pub table-at : ℕ → ℕ → List ℕ → ℕ → Result (List ℕ) Refusal
   table-at tag hashes input at =
       then (header-at input at tag) (λ h.
-        cond (k .measures (h .len))
-        (then (body-at input (at + 3) h) (λ body. judged-in tag at body (judged k hashes body)))
-        (Err (refused BadLength tag at)))
+      cond (k .measures (h .len))
+      (then (body-at input (at + 3) h) (λ body. judged-in tag at body (judged k hashes body)))
+      (Err (refused BadLength tag at)))
 
 -- the tag of a level's field
 abbrev pub tag-of : ℕ → ℕ

@@ -14,7 +14,11 @@ use refusals::Reason;
 use refusals::Refusal;
 
 /// Puts the "for" in, in list order; an error is the index of the first not taken.
-fn fill<F: Filter, I: Identifier>(filter: &mut F, list: &[Entry<I>], marks: &[u8]) -> Result<(), usize>
+fn fill<F: Filter, I: Identifier>(
+    filter: &mut F,
+    list: &[Entry<I>],
+    marks: &[u8],
+) -> Result<(), usize>
     requires { ⌜ length (now list) ≡ length (now marks) ⌝ }
     ensures { λ r. ⌜ Cases r
         (λ _. filled (F·Filter .kind) (F·Filter .view (now (filter .entry))) 0 (rows (I·Identifier .form) (now (list .entry)) (now (marks .entry))) ≡ Ok (F·Filter .view (now (filter .exit))))
@@ -31,7 +35,12 @@ fn fill<F: Filter, I: Identifier>(filter: &mut F, list: &[Entry<I>], marks: &[u8
 }
 
 /// Clears a filter and puts the "for" in; a put not taken names the level and the index.
-pub(crate) fn begin<F: Filter, I: Identifier>(filter: &mut F, settings: Settings, list: &[Entry<I>], marks: &[u8]) -> Result<(), Refusal>
+pub(crate) fn begin<F: Filter, I: Identifier>(
+    filter: &mut F,
+    settings: Settings,
+    list: &[Entry<I>],
+    marks: &[u8],
+) -> Result<(), Refusal>
     requires { ⌜ length (now list) ≡ length (now marks) ⌝ }
     ensures { λ r. ⌜ Cases r
         (λ _. begun (F·Filter .kind) settings (rows (I·Identifier .form) (now (list .entry)) (now (marks .entry))) ≡ Ok (F·Filter .view (now (filter .exit))))
@@ -40,7 +49,11 @@ pub(crate) fn begin<F: Filter, I: Identifier>(filter: &mut F, settings: Settings
     filter.clear(settings)?;
     match fill(filter, list, marks) {
         Ok(()) => Ok(()),
-        Err(place) => Err(Refusal { reason: Reason::NotTaken, tag: settings.hashing.level, place }),
+        Err(place) => Err(Refusal {
+            reason: Reason::NotTaken,
+            tag: settings.hashing.level,
+            place,
+        }),
     }
 }
 
@@ -50,13 +63,7 @@ fn next_mark<F: Filter, I: Identifier>(filter: &F, id: &I, mark: u8) -> u8
 {
     match mark {
         1 => 2,
-        2 => {
-            if filter.ask(id) {
-                1
-            } else {
-                0
-            }
-        }
+        2 => { if filter.ask(id) { 1 } else { 0 } }
         _ => 0,
     }
 }

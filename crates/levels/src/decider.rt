@@ -36,7 +36,13 @@ pub trait Decider: Sized {
         ensures { λ r. ⌜ (r .0, r .1) ≡ decider .decides (state (now (self .entry))) (form (now (id .entry))) ⌝ };
 
     /// Builds it from a register under the marks beside it; `sizes` has a table size for each level.
-    fn build<I: Identifier>(&mut self, at: Hashing, sizes: &[usize], list: &[Entry<I>], marks: &mut [u8]) -> Result<(), Refusal>
+    fn build<I: Identifier>(
+        &mut self,
+        at: Hashing,
+        sizes: &[usize],
+        list: &[Entry<I>],
+        marks: &mut [u8],
+    ) -> Result<(), Refusal>
         requires { ⌜ length (now list) ≡ length (now marks) ⌝ }
         ensures { λ r. ⌜ Cases r
             (λ _. decider .build at (now (sizes .entry)) (rows form (now (list .entry)) (now (marks .entry))) ≡ Ok (state (now (self .exit))))

@@ -43,11 +43,25 @@ pub impl<F: Exact> Decider for End<F> as EndDecider {
         }
     }
 
-    fn build<I: Identifier>(&mut self, at: Hashing, sizes: &[usize], list: &[Entry<I>], marks: &mut [u8]) -> Result<(), Refusal> {
+    fn build<I: Identifier>(
+        &mut self,
+        at: Hashing,
+        sizes: &[usize],
+        list: &[Entry<I>],
+        marks: &mut [u8],
+    ) -> Result<(), Refusal> {
         if sizes.len() != 0 {
             return Err(Refusal::plain(Reason::BadSetting));
         }
-        begin(&mut self.filter, Settings { hashing: at, size: 1536 }, list, marks)
+        begin(
+            &mut self.filter,
+            Settings {
+                hashing: at,
+                size: 1536,
+            },
+            list,
+            marks,
+        )
     }
 
     fn fits(&self, level: u8, room: usize) -> bool {

@@ -30,7 +30,11 @@ pub struct Level<F, D> {
 fn deeper(at: Hashing) -> Hashing
     ensures { λ r. ⌜ r ≡ deeper at ⌝ }
 {
-    Hashing { salt: at.salt, level: at.level.saturating_add(1), hashes: at.hashes }
+    Hashing {
+        salt: at.salt,
+        level: at.level.saturating_add(1),
+        hashes: at.hashes,
+    }
 }
 
 pub impl<F: Filter, D: Decider> Decider for Level<F, D> as LevelDecider {
@@ -41,7 +45,10 @@ pub impl<F: Filter, D: Decider> Decider for Level<F, D> as LevelDecider {
     ghost state = { λ e. record { filter = F·Filter .view (e .filter); below = D·Decider .state (e .below) } };
 
     fn blank() -> Self {
-        Level { filter: F::blank(), below: D::blank() }
+        Level {
+            filter: F::blank(),
+            below: D::blank(),
+        }
     }
 
     fn ask<I: Identifier>(&self, id: &I) -> (Side, u8) {
@@ -56,11 +63,25 @@ pub impl<F: Filter, D: Decider> Decider for Level<F, D> as LevelDecider {
         }
     }
 
-    fn build<I: Identifier>(&mut self, at: Hashing, sizes: &[usize], list: &[Entry<I>], marks: &mut [u8]) -> Result<(), Refusal> {
+    fn build<I: Identifier>(
+        &mut self,
+        at: Hashing,
+        sizes: &[usize],
+        list: &[Entry<I>],
+        marks: &mut [u8],
+    ) -> Result<(), Refusal> {
         let [size, rest @ ..] = sizes else {
             return Err(Refusal::plain(Reason::BadSetting));
         };
-        begin(&mut self.filter, Settings { hashing: at, size: *size }, list, marks)?;
+        begin(
+            &mut self.filter,
+            Settings {
+                hashing: at,
+                size: *size,
+            },
+            list,
+            marks,
+        )?;
         turn(&self.filter, list, marks);
         self.below.build(deeper(at), rest, list, marks)
     }

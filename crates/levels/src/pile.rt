@@ -16,11 +16,22 @@ use filters::Hashing;
 use refusals::Refusal;
 
 /// Six levels over an end, the shape of every make.
-pub type Six<F1, F2, F3, F4, F5, F6, E> = Level<F1, Level<F2, Level<F3, Level<F4, Level<F5, Level<F6, End<E>>>>>>>;
+pub type Six<F1, F2, F3, F4, F5, F6, E> = Level<
+    F1,
+    Level<F2, Level<F3, Level<F4, Level<F5, Level<F6, End<E>>>>>>,
+>;
 
 /// Six levels of any filters over any exact end: what is built from a list of distinct identifiers decides each by its
 /// side, from an even source exactly if for, and still does after it was saved and loaded.
-pub fn six_levels_decide<F1: Filter, F2: Filter, F3: Filter, F4: Filter, F5: Filter, F6: Filter, E: Exact>() -> bool
+pub fn six_levels_decide<
+    F1: Filter,
+    F2: Filter,
+    F3: Filter,
+    F4: Filter,
+    F5: Filter,
+    F6: Filter,
+    E: Exact,
+>() -> bool
     ensures { λ r. ⌜ Six-law (six (F1·Filter .kind) (F2·Filter .kind) (F3·Filter .kind) (F4·Filter .kind) (F5·Filter .kind) (F6·Filter .kind) (E·Filter .kind)) ⌝ ∗ ⌜ r ≡ true ⌝ }
 {
     true

@@ -58,7 +58,13 @@ fn mark_sides<I: Identifier>(list: &[Entry<I>], marks: &mut [u8])
 
 impl<D: Decider> Retry<D> {
     /// Builds from a register at the salts from the one given on, at most eight; says which succeeded.
-    pub fn build_register<I: Identifier>(&mut self, at: Hashing, sizes: &[usize], list: &[Entry<I>], work: &mut [u8]) -> Result<u16, Refusal>
+    pub fn build_register<I: Identifier>(
+        &mut self,
+        at: Hashing,
+        sizes: &[usize],
+        list: &[Entry<I>],
+        work: &mut [u8],
+    ) -> Result<u16, Refusal>
         ensures built { λ r. ⌜ Cases r
             (λ salt. built-in (D·Decider .decider) at (now (sizes .entry)) (listed (I·Identifier .form) (now (list .entry))) (length (now (work .entry))) ≡ Ok (salt, D·Decider .state (now (self .exit) .below)))
             (λ e. built-in (D·Decider .decider) at (now (sizes .entry)) (listed (I·Identifier .form) (now (list .entry))) (length (now (work .entry))) ≡ Err e) ⌝ }
@@ -74,7 +80,13 @@ impl<D: Decider> Retry<D> {
     }
 
     /// Tries one salt after the other.
-    fn try_salts<I: Identifier>(&mut self, at: Hashing, sizes: &[usize], list: &[Entry<I>], marks: &mut [u8]) -> Result<u16, Refusal>
+    fn try_salts<I: Identifier>(
+        &mut self,
+        at: Hashing,
+        sizes: &[usize],
+        list: &[Entry<I>],
+        marks: &mut [u8],
+    ) -> Result<u16, Refusal>
         requires { ⌜ length (now list) ≡ length (now marks) ⌝ }
         ensures { λ r. ⌜ Cases r
             (λ salt. retried (D·Decider .decider) at (now (sizes .entry)) (listed (I·Identifier .form) (now (list .entry))) 7 (at .salt) ≡ Ok (salt, D·Decider .state (now (self .exit) .below)))
@@ -84,7 +96,11 @@ impl<D: Decider> Retry<D> {
         let mut more: u8 = 7;
         let outcome = loop {
             mark_sides(list, marks);
-            let here = Hashing { salt, level: at.level, hashes: at.hashes };
+            let here = Hashing {
+                salt,
+                level: at.level,
+                hashes: at.hashes,
+            };
             match self.below.build(here, sizes, list, marks) {
                 Ok(()) => break Ok(salt),
                 Err(refusal) => {
@@ -115,7 +131,13 @@ pub impl<D: Decider> Decider for Retry<D> as RetryDecider {
         self.below.ask(id)
     }
 
-    fn build<I: Identifier>(&mut self, at: Hashing, sizes: &[usize], list: &[Entry<I>], marks: &mut [u8]) -> Result<(), Refusal> {
+    fn build<I: Identifier>(
+        &mut self,
+        at: Hashing,
+        sizes: &[usize],
+        list: &[Entry<I>],
+        marks: &mut [u8],
+    ) -> Result<(), Refusal> {
         self.below.build(at, sizes, list, marks)
     }
 

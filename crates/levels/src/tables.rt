@@ -21,7 +21,11 @@ pub(crate) fn tag_of(level: u8) -> u8
 }
 
 /// Reads the table of a level, judged by its filter; the body is a part of the input.
-pub(crate) fn read_table<'a, F: Filter>(tag: u8, hashes: u8, reader: &mut Reader<'a>) -> Result<&'a [u8], Refusal>
+pub(crate) fn read_table<'a, F: Filter>(
+    tag: u8,
+    hashes: u8,
+    reader: &mut Reader<'a>,
+) -> Result<&'a [u8], Refusal>
     ensures verdict { λ r. ⌜ Cases r
         (λ b. (table-at (F·Filter .kind) tag hashes (now (now (reader .entry) .input)) (now (reader .entry) .at) ≡ Ok (now b)) × (now (reader .exit) .at ≡ now (reader .entry) .at + 3 + length (now b)))
         (λ e. table-at (F·Filter .kind) tag hashes (now (now (reader .entry) .input)) (now (reader .entry) .at) ≡ Err e) ⌝ }
@@ -29,7 +33,11 @@ pub(crate) fn read_table<'a, F: Filter>(tag: u8, hashes: u8, reader: &mut Reader
 {
     let header = reader.header(tag)?;
     if !F::measures(header.len) {
-        return Err(Refusal { reason: Reason::BadLength, tag, place: header.place });
+        return Err(Refusal {
+            reason: Reason::BadLength,
+            tag,
+            place: header.place,
+        });
     }
     let body = reader.body(header)?;
     match F::judge(hashes, body) {

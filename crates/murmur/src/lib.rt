@@ -39,14 +39,19 @@ fn absorb(seed: u32, bytes: &[u8]) -> u32
 fn mix(k: u32) -> u32
     ensures { λ r. ⌜ r ≡ mixed k ⌝ }
 {
-    k.wrapping_mul(0xCC9E_2D51).rotate_left(15).wrapping_mul(0x1B87_3593)
+    k.wrapping_mul(0xCC9E_2D51)
+        .rotate_left(15)
+        .wrapping_mul(0x1B87_3593)
 }
 
 /// The state after one whole group.
 fn fold(h: u32, k: u32) -> u32
     ensures { λ r. ⌜ r ≡ folded h k ⌝ }
 {
-    (h ^ mix(k)).rotate_left(13).wrapping_mul(5).wrapping_add(0xE654_6B64)
+    (h ^ mix(k))
+        .rotate_left(13)
+        .wrapping_mul(5)
+        .wrapping_add(0xE654_6B64)
 }
 
 /// The hash from the last state and the length.

@@ -45,13 +45,13 @@ serial-part : (serial m : List ℕ) (k : ℕ) → ((i : ℕ) → getD serial i 0
 serial-part serial m k low e h =
     ⊎-elim
     (λ (z : length serial < 1).
-      let none = nil-from-length serial (omega arith) in
-      let z0 : k ≡ 0 = omega arith in
-      rw (h, z0, none))
+    let none = nil-from-length serial (omega arith) in
+    let z0 : k ≡ 0 = omega arith in
+    rw (h, z0, none))
     (λ (z : 1 ≤ length serial).
-      let one : max k 1 ≡ k = omega arith in
-      let size : length m ≡ k = ap length h ∙ simp length-take (omega arith) in
-      rw one (take-at m _ k size ∙ h ∙ sym (firsts-take k serial (omega arith) low)))
+    let one : max k 1 ≡ k = omega arith in
+    let size : length m ≡ k = ap length h ∙ simp length-take (omega arith) in
+    rw one (take-at m _ k size ∙ h ∙ sym (firsts-take k serial (omega arith) low)))
     (cases-lt (length serial) 1)
 
 pub chip-written : (a b c : ℕ) (serial m : List ℕ) (k n : ℕ) → ((i : ℕ) → getD serial i 0 < 256) → k ≡ min (length serial) 20 → n ≡ max k 1 → m ≡ take (k - 0) serial → take (min 23 (3 + n)) (putMid 3 (3 + k - 3) ((a ∷ b ∷ c ∷ []) ++ drop 3 (replicate 23 0)) m) ≡ a ∷ b ∷ c ∷ firsts (max (min (length serial) 20) 1) serial
@@ -59,9 +59,9 @@ chip-written a b c serial m k n low e f h =
     ap (take (min 23 (3 + n))) (behind-3 a b c m (replicate 23 0) k)
     ∙ take-3 a b c n (min 23 (3 + n)) _ (omega arith)
     ∙ ap (λ (xs : List ℕ). a ∷ b ∷ c ∷ xs)
-      (ap (λ (j : ℕ). take j (m ++ drop (3 + k) (replicate 23 0))) f
-      ∙ serial-part serial m k low e (h ∙ ap (λ (j : ℕ). take j serial) (sub-zero k))
-      ∙ ap (λ (j : ℕ). firsts (max j 1) serial) e)
+    (ap (λ (j : ℕ). take j (m ++ drop (3 + k) (replicate 23 0))) f
+    ∙ serial-part serial m k low e (h ∙ ap (λ (j : ℕ). take j serial) (sub-zero k))
+    ∙ ap (λ (j : ℕ). firsts (max j 1) serial) e)
 
 -- the form of a serial that fits
 pub chip-plain : (issuer : ℕ) (serial : List ℕ) → ((i : ℕ) → getD serial i 0 < 256) → 1 ≤ length serial → length serial ≤ 20 → chip-form issuer serial ≡ 0x43 ∷ (be2 issuer ++ serial)

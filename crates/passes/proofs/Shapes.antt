@@ -26,17 +26,17 @@ from-test (x ∷ xs) e =
     let l = leb-true 4 n (q .0) in
     ⊎-elim
     (λ (t : x ≡ 0x54).
-      let h = eqb-true n 11 (ap (λ (k : ℕ). begins k n) (sym t) ∙ q .1) in
-      rw t (tag {rest = xs} (omega arith) b))
+    let h = eqb-true n 11 (ap (λ (k : ℕ). begins k n) (sym t) ∙ q .1) in
+    rw t (tag {rest = xs} (omega arith) b))
     (λ (t : x ≡ 0x54 → ⊥).
-      ⊎-elim
-      (λ (u : x ≡ 0x43).
-        let h = leb-true n 23 (ap (λ (k : ℕ). begins k n) (sym u) ∙ q .1) in
-        rw u (chip {rest = xs} (omega arith) (omega arith) b))
-      (λ (u : x ≡ 0x43 → ⊥).
-        let none : begins x n ≡ false = cond-false (eqb x 0x54) (eqb n 11) (cond (eqb x 0x43) (leb n 23) false) (ne-eqb x 0x54 t) ∙ cond-false (eqb x 0x43) (leb n 23) false (ne-eqb x 0x43 u) in
-        absurd (both-ways (begins x n) none (q .1)))
-      (cases-eq x 0x43))
+    ⊎-elim
+    (λ (u : x ≡ 0x43).
+    let h = leb-true n 23 (ap (λ (k : ℕ). begins k n) (sym u) ∙ q .1) in
+    rw u (chip {rest = xs} (omega arith) (omega arith) b))
+    (λ (u : x ≡ 0x43 → ⊥).
+    let none : begins x n ≡ false = cond-false (eqb x 0x54) (eqb n 11) (cond (eqb x 0x43) (leb n 23) false) (ne-eqb x 0x54 t) ∙ cond-false (eqb x 0x43) (leb n 23) false (ne-eqb x 0x43 u) in
+    absurd (both-ways (begins x n) none (q .1)))
+    (cases-eq x 0x43))
     (cases-eq x 0x54)
 
 to-test : (xs : List ℕ) → Lawful xs → lawful xs ≡ true

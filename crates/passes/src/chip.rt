@@ -29,7 +29,11 @@ impl ChipPass {
     pub fn new() -> ChipPass
         ensures { λ r. ⌜ r ≡ first-chip ⌝ }
     {
-        ChipPass { issuer: 0, n: 0, serial: [0; 20] }
+        ChipPass {
+            issuer: 0,
+            n: 0,
+            serial: [0; 20],
+        }
     }
 
     /// The bytes of its serial.
@@ -63,7 +67,11 @@ fn stored(issuer: u16, serial: &[u8]) -> ChipPass
     let k = serial.len();
     let mut bytes = [0; 20];
     bytes[0..k].copy_from_slice(serial);
-    ChipPass { issuer, n: (k - 1) as u8, serial: bytes }
+    ChipPass {
+        issuer,
+        n: (k - 1) as u8,
+        serial: bytes,
+    }
 }
 
 pub impl Identifier for ChipPass as ChipPassIdentifier {
@@ -115,5 +123,8 @@ fn write_chip(issuer: u16, serial: &[u8]) -> Form
     let mut bytes = [0; 23];
     bytes[0..3].copy_from_slice(&[0x43, i[0], i[1]]);
     bytes[3..3 + k].copy_from_slice(&serial[0..k]);
-    Form { len: 3 + k.max(1) as u8, bytes }
+    Form {
+        len: 3 + k.max(1) as u8,
+        bytes,
+    }
 }

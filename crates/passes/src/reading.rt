@@ -58,9 +58,21 @@ pub fn read_form(bytes: &[u8]) -> Option<Pass<'_>>
     }
     let issuer = issuer_of(bytes);
     if bytes[0] == 0x54 {
-        let number = u64::from_be_bytes([bytes[3], bytes[4], bytes[5], bytes[6], bytes[7], bytes[8], bytes[9], bytes[10]]);
+        let number = u64::from_be_bytes([
+            bytes[3],
+            bytes[4],
+            bytes[5],
+            bytes[6],
+            bytes[7],
+            bytes[8],
+            bytes[9],
+            bytes[10],
+        ]);
         Some(Pass::Tag(Tag { issuer, number }))
     } else {
-        Some(Pass::Chip(ChipRef { issuer, serial: &bytes[3..] }))
+        Some(Pass::Chip(ChipRef {
+            issuer,
+            serial: &bytes[3..],
+        }))
     }
 }

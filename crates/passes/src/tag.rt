@@ -19,7 +19,21 @@ pub impl Identifier for Tag as TagIdentifier {
         let i = self.issuer.to_be_bytes();
         let n = self.number.to_be_bytes();
         let mut bytes = [0; 23];
-        bytes[0..11].copy_from_slice(&[0x54, i[0], i[1], n[0], n[1], n[2], n[3], n[4], n[5], n[6], n[7]]);
+        bytes[0..11].copy_from_slice(
+            &[
+                0x54,
+                i[0],
+                i[1],
+                n[0],
+                n[1],
+                n[2],
+                n[3],
+                n[4],
+                n[5],
+                n[6],
+                n[7],
+            ],
+        );
         Form { len: 11, bytes }
     }
 }

@@ -73,13 +73,21 @@ impl Refusal {
     pub fn plain(reason: Reason) -> Refusal
         ensures { λ r. ⌜ r ≡ plain reason ⌝ }
     {
-        Refusal { reason, tag: 0, place: 0 }
+        Refusal {
+            reason,
+            tag: 0,
+            place: 0,
+        }
     }
 
     /// The same reason, at a field: its tag and the place of its first byte.
     pub fn in_field(self, tag: u8, place: usize) -> Refusal
         ensures { λ r. ⌜ r ≡ refused (self .reason) tag place ⌝ }
     {
-        Refusal { reason: self.reason, tag, place }
+        Refusal {
+            reason: self.reason,
+            tag,
+            place,
+        }
     }
 }

@@ -16,7 +16,6 @@ loop-left-again c =
     c .loop-left .inv ∙ absorbed-more (c .loop-left .h) xs e ∙ ap (λ (h : ℕ). absorbed h (drop 4 xs)) (sym (c .fold-h .ensures ∙ k))
     ∙ ap (absorbed (c .fold-h .result)) (sym (rest-of xs))
 
-
 pub returns-in-len1 : need.returns-in-len1
 unfolding low-first
 returns-in-len1 c =

@@ -27,13 +27,15 @@ search-again c =
     let u = set (c .search .cells) at (c .search .f) in
     let r = c .partner-of-i .result in
     let p = sym (c .partner-of-i .ensures .is) in
-    let same = sym (c .loop-j .inv .0) in
-    (c .loop-j .inv .1, c .partner-of-i .ensures .low,
+    let same = sym (c .loop-j .inv .0) in (
+      c .loop-j .inv .1,
+      c .partner-of-i .ensures .low,
       c .search .inv .2
-      ∙ kick-on (partner b) n i (c .search .f) (c .search .cells) (c .search-test .taken)
-        (ap (λ (q : ℕ). put-into u (4 * q) 4 g) p ∙ ap (λ (x : List ℕ). put-into x (4 * r) 4 g) same ∙ c .loop-j .inv .2 ∙ into-end (c .loop-j .cells) _ g (c .loop-j .j) (c .loop-j-test .left))
-      ∙ ap (λ (q : ℕ). kicked (partner b) (64 - (n + 1)) (n + 1) q g u) p
-      ∙ ap (λ (x : List ℕ). kicked (partner b) (64 - (n + 1)) (n + 1) r g x) same)
+          ∙ kick-on (partner b) n i (c .search .f) (c .search .cells) (c .search-test .taken)
+          (ap (λ (q : ℕ). put-into u (4 * q) 4 g) p ∙ ap (λ (x : List ℕ). put-into x (4 * r) 4 g) same ∙ c .loop-j .inv .2 ∙ into-end (c .loop-j .cells) _ g (c .loop-j .j) (c .loop-j-test .left))
+          ∙ ap (λ (q : ℕ). kicked (partner b) (64 - (n + 1)) (n + 1) q g u) p
+          ∙ ap (λ (x : List ℕ). kicked (partner b) (64 - (n + 1)) (n + 1) r g x) same,
+    )
 
 pub returns-after-search : need.returns-after-search
 returns-after-search c =
@@ -53,4 +55,4 @@ returns-then-cells-at-eq0 c =
     let same = sym (c .loop-j .inv .0) in
     c .search .inv .2
     ∙ kick-found (partner b) n i (c .search .f) (c .search .cells) _ (c .search-test .taken)
-      (ap (λ (q : ℕ). put-into u (4 * q) 4 g) p ∙ ap (λ (x : List ℕ). put-into x (4 * r) 4 g) same ∙ c .loop-j .inv .2 ∙ into-here (c .loop-j .cells) _ (4 - c .loop-j .j) g (omega arith) (c .if-cells-at-eq0 .taken))
+    (ap (λ (q : ℕ). put-into u (4 * q) 4 g) p ∙ ap (λ (x : List ℕ). put-into x (4 * r) 4 g) same ∙ c .loop-j .inv .2 ∙ into-here (c .loop-j .cells) _ (4 - c .loop-j .j) g (omega arith) (c .if-cells-at-eq0 .taken))

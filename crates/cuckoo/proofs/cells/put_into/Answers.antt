@@ -18,16 +18,16 @@ pub returns-then-cells-c-eq0 : need.returns-then-cells-c-eq0
 returns-then-cells-c-eq0 c =
     record {
       put =
-        ap (λ (t : List ℕ). put-into t (c .args .at) 4 (c .args .f)) (sym (c .loop-k .inv .0)) ∙ c .loop-k .inv .1
-        ∙ into-here (c .loop-k .cells) (c .args .at + c .loop-k .k) (4 - c .loop-k .k) (c .args .f) (omega arith) (c .if-cells-c-eq0 .taken);
-      kept = search needs
+          ap (λ (t : List ℕ). put-into t (c .args .at) 4 (c .args .f)) (sym (c .loop-k .inv .0)) ∙ c .loop-k .inv .1
+          ∙ into-here (c .loop-k .cells) (c .args .at + c .loop-k .k) (4 - c .loop-k .k) (c .args .f) (omega arith) (c .if-cells-c-eq0 .taken);
+      kept = search needs;
     }
 
 pub returns : need.returns
 returns c =
     record {
       put =
-        ap (λ (t : List ℕ). put-into t (c .args .at) 4 (c .args .f)) (sym (c .loop-k .inv .0)) ∙ c .loop-k .inv .1
-        ∙ into-end (c .loop-k .cells) (c .args .at + c .loop-k .k) (c .args .f) (c .loop-k .k) (c .loop-k-test .left);
-      kept = λ z. c .loop-k .inv .0
+          ap (λ (t : List ℕ). put-into t (c .args .at) 4 (c .args .f)) (sym (c .loop-k .inv .0)) ∙ c .loop-k .inv .1
+          ∙ into-end (c .loop-k .cells) (c .args .at + c .loop-k .k) (c .args .f) (c .loop-k .k) (c .loop-k-test .left);
+      kept = λ z. c .loop-k .inv .0;
     }

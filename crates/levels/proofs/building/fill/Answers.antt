@@ -19,19 +19,19 @@ loop-i-again g c =
     let rest = drop (i + 1) (rows f es ms) in
     c .loop-i .inv
     ∙ elim (c .if-marks-i-eq1 .came) [
-        then-marks-i-eq1·else-not-put w ↦
+      | then-marks-i-eq1·else-not-put w ↦
           let d = w .index-list-i .result in
           let e = getD es i d in
           ap (fill k v i) (rows-at f es ms i d (c .loop-i-test .taken) (c .pre))
           ∙ fill-put k v (g .F·Filter .view (c .if-marks-i-eq1 .filter)) i (row f e (getD ms i 0)) rest (w .if-marks-i-eq1 .taken)
-            (sym (ap (λ p. p .0) (w .put .ensures)) ∙ w .if-not-put .left)
-            (ap (g .F·Filter .view) (w .filter-is) ∙ ap (λ p. p .1) (w .put .ensures))
+          (sym (ap (λ p. p .0) (w .put .ensures)) ∙ w .if-not-put .left)
+          (ap (g .F·Filter .view) (w .filter-is) ∙ ap (λ p. p .1) (w .put .ensures))
       | else-marks-i-eq1 w ↦
           let t = rows-some f es ms i (c .loop-i-test .taken) (c .pre) in
           ap (fill k v i) (t .1)
           ∙ fill-skip k v i (row f (t .0) (getD ms i 0)) rest (w .if-marks-i-eq1 .left)
           ∙ ap (λ u. fill k (g .F·Filter .view u) (i + 1) rest) (sym (w .filter-is))
-      ]
+    ]
 
 pub returns-then-not-put : need.returns-then-not-put
 returns-then-not-put g c =

@@ -23,10 +23,10 @@ loop-i-again g c =
     let long : i < length ns = omega (arith, c .loop-i .kept .marks, c .pre, c .loop-i-test .taken) in
     let P : ℕ → ℕ → Type 0 = λ j y. (d : Entry (g .I .Denot)) → y ≡ remark k v (row f (getD es j d) (getD ms j 0)) in
     let now-here : P i (c .next-mark .result) =
-        λ d.
-          c .next-mark .ensures
-          ∙ ap (λ (m : ℕ). remark k v (row f (getD es i (c .index-list-i .result)) m)) (c .loop-i .inv .1 i (omega arith))
-          ∙ ap (λ (e : Entry (g .I .Denot)). remark k v (row f e (getD ms i 0))) (getD-any es i (c .index-list-i .result) d (c .loop-i-test .taken))
+    λ d.
+    c .next-mark .ensures
+    ∙ ap (λ (m : ℕ). remark k v (row f (getD es i (c .index-list-i .result)) m)) (c .loop-i .inv .1 i (omega arith))
+    ∙ ap (λ (e : Entry (g .I .Denot)). remark k v (row f e (getD ms i 0))) (getD-any es i (c .index-list-i .result) d (c .loop-i-test .taken))
     in
     let more = marks-more ns i (c .next-mark .result) P long (λ j l d. c .loop-i .inv .0 j d l) now-here in
     ((λ j d l. more j l d), (λ j l. let ne : j ≢ i = omega arith in rw getD-set-other (c .loop-i .inv .1 j (omega arith))))

@@ -16,7 +16,7 @@ loop-i-again g c =
     let long : i < length ns = omega (arith, c .loop-i .kept .marks, c .pre, c .loop-i-test .taken) in
     let P : ℕ → ℕ → Type 0 = λ j y. (e : Entry (g .I .Denot)) → y ≡ mark-of (getD es j e .side) in
     let here : P i (c .mark-of .result) =
-        λ e. c .mark-of .ensures ∙ ap (λ (x : Entry (g .I .Denot)). mark-of (x .side)) (c .index-list-i .is ∙ getD-any es i (c .index-list-i .result) e (c .loop-i-test .taken))
+    λ e. c .mark-of .ensures ∙ ap (λ (x : Entry (g .I .Denot)). mark-of (x .side)) (c .index-list-i .is ∙ getD-any es i (c .index-list-i .result) e (c .loop-i-test .taken))
     in
     let more = marks-more ns i (c .mark-of .result) P long (λ j l e. c .loop-i .inv j e l) here in
     λ j e l. more j l e

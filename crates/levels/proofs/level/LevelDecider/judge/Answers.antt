@@ -18,8 +18,8 @@ returns g c =
     let same = ap (λ (h : Hashing). d .loads h input2 at2) (sym (c .deeper .ensures)) in
     record {
       verdict =
-        cases-weaker (c .judge .result) (c .judge .ensures .verdict)
-        (λ _ p. (record { filter = k .loaded at body; below = p .0 }, level-loads k d at (c .tag-of .result) (me .at) at2 (me .input .now) input2 body (c .tag-of .ensures) (read .verdict .0) (read .verdict .1) (read .input) (p .0) (c .judge .last .reader .at) (same ∙ p .1)))
-        (λ e q. level-refuses k d at (c .tag-of .result) (me .at) at2 (me .input .now) input2 body (c .tag-of .ensures) (read .verdict .0) (read .verdict .1) (read .input) e (same ∙ q));
+          cases-weaker (c .judge .result) (c .judge .ensures .verdict)
+          (λ _ p. (record { filter = k .loaded at body; below = p .0 }, level-loads k d at (c .tag-of .result) (me .at) at2 (me .input .now) input2 body (c .tag-of .ensures) (read .verdict .0) (read .verdict .1) (read .input) (p .0) (c .judge .last .reader .at) (same ∙ p .1)))
+          (λ e q. level-refuses k d at (c .tag-of .result) (me .at) at2 (me .input .now) input2 body (c .tag-of .ensures) (read .verdict .0) (read .verdict .1) (read .input) e (same ∙ q));
       input = c .judge .ensures .input ∙ read .input;
     }

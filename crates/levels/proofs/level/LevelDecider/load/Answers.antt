@@ -36,8 +36,8 @@ returns g c =
     let low = g .D·Decider .state (c .load-2 .last .self) in
     record {
       verdict =
-        cases-weaker (c .load-2 .result) (c .load-2 .ensures .verdict)
-        (λ _ p. level-loads k d at (c .tag-of .result) (me .at) at2 (me .input .now) input2 body (c .tag-of .ensures) (read .verdict .0) (read .verdict .1) (read .input) low at3 (same ∙ p) ∙ ap (λ (v : g .F·Filter .View). Ok (record { filter = v; below = low }, at3)) (sym (done .1)))
-        (λ e q. level-refuses k d at (c .tag-of .result) (me .at) at2 (me .input .now) input2 body (c .tag-of .ensures) (read .verdict .0) (read .verdict .1) (read .input) e (same ∙ q));
+          cases-weaker (c .load-2 .result) (c .load-2 .ensures .verdict)
+          (λ _ p. level-loads k d at (c .tag-of .result) (me .at) at2 (me .input .now) input2 body (c .tag-of .ensures) (read .verdict .0) (read .verdict .1) (read .input) low at3 (same ∙ p) ∙ ap (λ (v : g .F·Filter .View). Ok (record { filter = v; below = low }, at3)) (sym (done .1)))
+          (λ e q. level-refuses k d at (c .tag-of .result) (me .at) at2 (me .input .now) input2 body (c .tag-of .ensures) (read .verdict .0) (read .verdict .1) (read .input) e (same ∙ q));
       input = c .load-2 .ensures .input ∙ read .input;
     }
