@@ -22,9 +22,9 @@ abbrev pub ignored : List (List ℕ) → Bool
 ignored [] = true
 ignored (w ∷ ws) = comment w
 
--- the same buffers, chip pass in hand and filter
+-- the same buffers, chip pass in hand, filter, register, plan and levels
 abbrev pub Same : Console → Console → Type 0
-Same x y = (x .buffers ≡ y .buffers) × (x .chip ≡ y .chip) × (held-view (x .filter) ≡ held-view (y .filter))
+Same x y = (x .buffers ≡ y .buffers) × (x .chip ≡ y .chip) × (held-view (x .filter) ≡ held-view (y .filter)) × (x .register ≡ y .register) × (x .plan ≡ y .plan) × (x .levels ≡ y .levels)
 
 abbrev pub is-ignored : Outcome → Bool
 is-ignored Ignored = true

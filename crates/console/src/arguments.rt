@@ -5,9 +5,11 @@ use crate::faults::Fault;
 use crate::faults::FaultFromAlloc;
 use crate::faults::FaultFromRefusal;
 use crate::pass::Pass;
+use crate::register::Sides;
 use crate::span::Numbers;
 use crate::span::Span;
 use crate::span::SpanKind;
+use levels::Side;
 use passes::chip::ChipPass;
 use passes::tag::Tag;
 use std::alloc::Global;
@@ -53,6 +55,21 @@ pub(crate) fn level(word: &[u8]) -> Result<u8, Fault> {
     Ok(number(word, 1, 7)? as u8)
 }
 
+/// How many passes: of a span, or from one blocked pass to the next.
+pub(crate) fn count(word: &[u8]) -> Result<u16, Fault> {
+    Ok(number(word, 1, 8192)? as u16)
+}
+
+/// The index of a pass in the register, or a distance in it.
+pub(crate) fn index(word: &[u8]) -> Result<usize, Fault> {
+    Ok(number(word, 0, 8192)? as usize)
+}
+
+/// A number of work bytes.
+pub(crate) fn work(word: &[u8]) -> Result<usize, Fault> {
+    Ok(number(word, 0, 65_536)? as usize)
+}
+
 /// Bytes in hexadecimal digits.
 pub(crate) fn bytes(heap: Global, word: &[u8]) -> Result<Vec<u8>, Fault> {
     hex::bytes(heap, word)?.ok_or(Fault::Usage)
@@ -82,11 +99,42 @@ pub(crate) fn pass(heap: Global, words: Words<'_>) -> Result<Pass, Fault> {
     }
 }
 
+/// A side: blocked is for, good is against.
+pub(crate) fn side(word: &[u8]) -> Result<Side, Fault> {
+    match word {
+        b"blocked" => Ok(Side::For),
+        b"good" => Ok(Side::Against),
+        _ => Err(Fault::Usage),
+    }
+}
+
+/// Whether a word says that a distance follows.
+fn is_every(word: &[u8]) -> bool {
+    matches!(word, b"every")
+}
+
+/// Many passes with their sides.
+pub(crate) fn sided_span(words: Words<'_>) -> Result<(Span, Sides), Fault> {
+    let [front @ .., last] = words else {
+        return Err(Fault::Usage);
+    };
+    let [passes @ .., word] = front else {
+        return Err(Fault::Usage);
+    };
+    if is_every(word) {
+        let sides = Sides::Every(count(last)?);
+        Ok((span(passes)?, sides))
+    } else {
+        let sides = Sides::All(side(last)?);
+        Ok((span(front)?, sides))
+    }
+}
+
 /// The numbers of a span.
 fn span_numbers(first: &[u8], step: &[u8], count: &[u8]) -> Result<Numbers, Fault> {
     let first = number64(first)?;
     let step = number64(step)?;
-    let count = number(count, 1, 8192)? as u16;
+    let count = self::count(count)?;
     Numbers::new(first, step, count).ok_or(Fault::NumberTooLarge)
 }
 

@@ -15,6 +15,15 @@ pub enum Command {
     Yeses,
     Save,
     Load,
+    Register,
+    Pass,
+    Passes,
+    Turn,
+    Plan,
+    Build,
+    Decide,
+    Keep,
+    Reopen,
 }
 
 impl Command {
@@ -36,6 +45,15 @@ impl Command {
                 b"yeses" => Command::Yeses,
                 b"save" => Command::Save,
                 b"load" => Command::Load,
+                b"register" => Command::Register,
+                b"pass" => Command::Pass,
+                b"passes" => Command::Passes,
+                b"turn" => Command::Turn,
+                b"plan" => Command::Plan,
+                b"build" => Command::Build,
+                b"decide" => Command::Decide,
+                b"keep" => Command::Keep,
+                b"reopen" => Command::Reopen,
                 _ => return None,
             },
         )
@@ -58,6 +76,15 @@ impl Command {
             Command::Yeses => "yeses SPAN",
             Command::Save => "save NAME",
             Command::Load => "load NAME",
+            Command::Register => "register [clear]",
+            Command::Pass => "pass PASS SIDE",
+            Command::Passes => "passes SPAN SIDES",
+            Command::Turn => "turn INDEX [STEP COUNT]",
+            Command::Plan => "plan MAKE HASHES S1 S2 S3 S4 S5 S6 SALT NUMBER",
+            Command::Build => "build [WORKLEN]",
+            Command::Decide => "decide PASS",
+            Command::Keep => "keep NAME",
+            Command::Reopen => "reopen NAME SALT HASHES",
         }
     }
 }

@@ -4,6 +4,7 @@ ghost use mathlib.Core.List.{[], map};
 ghost use Prim.Native.Nat.{_+_, _-_, _^_, min};
 ghost use Rattle.std.specs.BTreeMap.{keys};
 ghost use Rattle.std.specs.Of.String.{string-bytes};
+ghost use Rattle.std.specs.Of.Vec.{vec-items};
 ghost use Rattle.std.specs.Options.{isSome};
 ghost use Rattle.std.specs.Results.{isOk};
 ghost use Rattle.std.specs.Vec.{made};
@@ -20,6 +21,11 @@ use crate::faults::Fault;
 use crate::filtering;
 use crate::hashing;
 use crate::kinds::AnyFilter;
+use crate::leveling;
+use crate::makes::AnyLevels;
+use crate::plans::Plan;
+use crate::register::Register;
+use crate::registering;
 use crate::shown::write_refusal;
 use passes::chip::ChipPass;
 use std::alloc::AllocError;
@@ -39,6 +45,9 @@ pub struct Console {
     buffers: Buffers,
     filter: Option<AnyFilter>,
     chip: ChipPass,
+    register: Register,
+    plan: Option<Plan>,
+    levels: Option<AnyLevels>,
 }
 
 /// What came of a line.
@@ -76,7 +85,7 @@ fn heeded<'a>(words: Words<'a>) -> Option<(&'a [u8], Words<'a>)>
 impl Console {
     /// A console that has read no line yet.
     pub fn new(heap: Global) -> Console
-        ensures { λ r. ⌜ (r .lines ≡ 0) × (keys (r .buffers .all) ≡ []) × (r .filter ≡ None) × (r .chip ≡ first-chip) ⌝ }
+        ensures { λ r. ⌜ (r .lines ≡ 0) × (keys (r .buffers .all) ≡ []) × (r .filter ≡ None) × (r .chip ≡ first-chip) × (vec-items (r .register .list) ≡ []) × (r .plan ≡ None) × (r .levels ≡ None) ⌝ }
     {
         Console {
             heap,
@@ -84,6 +93,9 @@ impl Console {
             buffers: Buffers::new(heap),
             filter: None,
             chip: ChipPass::new(),
+            register: Register::new(heap),
+            plan: None,
+            levels: None,
         }
     }
 
@@ -141,6 +153,12 @@ impl Console {
             Fault::NoSuchBuffer => self.error("no such buffer", out),
             Fault::BufferTooLong => self.error("buffer too long", out),
             Fault::NoFilter => self.error("no filter", out),
+            Fault::RegisterMixed => self.error("register would be mixed", out),
+            Fault::RegisterFull => self.error("register full", out),
+            Fault::PastTheEnd => self.error("past the end", out),
+            Fault::NoPlan => self.error("no plan", out),
+            Fault::NoSuchMake => self.error("no such make", out),
+            Fault::NoLevels => self.error("no levels", out),
             Fault::Refused(refusal) => match write_refusal(refusal, out) {
                 Ok(()) => Ok(()),
                 Err(_) => Err(AllocError),
@@ -178,6 +196,26 @@ impl Console {
             Command::Yeses => filtering::yeses(&self.filter, words, out),
             Command::Save => filtering::save(&self.filter, &mut self.buffers, heap, words, out),
             Command::Load => filtering::load(&mut self.filter, &self.buffers, words, out),
+            Command::Register => registering::register(&mut self.register, words, out),
+            Command::Pass => registering::pass(&mut self.register, heap, words, out),
+            Command::Passes => registering::passes(&mut self.register, words, out),
+            Command::Turn => registering::turn(&mut self.register, words, out),
+            Command::Plan => leveling::plan(&mut self.plan, words, out),
+            Command::Build => {
+                leveling::build(
+                    &mut self.levels,
+                    &self.register,
+                    &self.plan,
+                    heap,
+                    words,
+                    out,
+                )
+            }
+            Command::Decide => leveling::decide(&self.levels, heap, words, out),
+            Command::Keep => leveling::keep(&self.levels, &mut self.buffers, heap, words, out),
+            Command::Reopen => {
+                leveling::reopen(&mut self.levels, &self.buffers, heap, words, out)
+            }
         }
     }
 

@@ -20,7 +20,19 @@ pub enum Fault {
     BufferTooLong,
     /// a filter is needed first
     NoFilter,
-    /// a filter or a pass does not accept something
+    /// a tag into a register of chip passes, or the reverse
+    RegisterMixed,
+    /// the register would have more passes than it may
+    RegisterFull,
+    /// an index beyond what is there
+    PastTheEnd,
+    /// a plan is needed first
+    NoPlan,
+    /// levels of this make can't be had
+    NoSuchMake,
+    /// levels have to be built first
+    NoLevels,
+    /// a filter, a pass or the levels do not accept something
     Refused(Refusal),
 }
 

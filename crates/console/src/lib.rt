@@ -8,7 +8,12 @@ mod faults;
 mod filtering;
 mod hashing;
 mod kinds;
+mod leveling;
+mod makes;
 mod pass;
+mod plans;
+mod register;
+mod registering;
 mod shown;
 mod span;
 

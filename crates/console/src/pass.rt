@@ -13,6 +13,13 @@ pub enum Pass {
     Chip(ChipPass),
 }
 
+impl Pass {
+    /// Whether it is a tag.
+    pub(crate) fn is_tag(&self) -> bool {
+        matches!(self, Pass::Tag(_))
+    }
+}
+
 pub impl Identifier for Pass as PassIdentifier {
     ghost form = { pass-form };
 

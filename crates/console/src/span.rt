@@ -72,6 +72,11 @@ impl Span {
         self.numbers.count
     }
 
+    /// Whether its passes are tags.
+    pub(crate) fn is_of_tags(&self) -> bool {
+        matches!(self.kind, SpanKind::Tags)
+    }
+
     /// The pass at a place, from 0.
     pub(crate) fn pass(&self, i: u16) -> Pass
         requires { ⌜ i < now self .numbers .count ⌝ }

@@ -4,6 +4,8 @@ use mathlib.Core.Bool.{Bool, cond}
 use mathlib.Core.List.{List, _∷_, _++_}
 use lib.Dec.{eqb, ltb}
 use lib.ListN.{length, getD, take, drop}
+use Rattle.std.specs.declared.option.Option.{Option}
+use Rattle.std.specs.declared.option.Option.the-variants.{None, Some}
 use Rattle.std.specs.declared.result.Result.{Result}
 use Rattle.std.specs.declared.result.Result.the-variants.{Ok, Err}
 use Rattle.refusals.specs.declared.Reason.the-variants.{CutShort, WrongTag}
@@ -14,6 +16,10 @@ use Rattle.fields.specs.declared.Header.{Header}
 
 abbrev pub field : ℕ → List ℕ → List ℕ
 field tag body = tag ∷ (be2 (length body) ++ body)
+
+-- the tag found at a place of the input, if the three bytes of a header are there
+abbrev pub tag-at : List ℕ → ℕ → Option ℕ
+tag-at input at = cond (ltb (length input - at) 3) None (Some (getD input at 0))
 
 -- the header that stands at a place of the input, where a tag is due
 abbrev pub header-at : List ℕ → ℕ → ℕ → Result Header Refusal

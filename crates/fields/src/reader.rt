@@ -5,7 +5,7 @@ ghost use denote.Ref.{now};
 ghost use lib.ListN.{length};
 ghost use Rattle.std.specs.Results.{Cases, isOk};
 ghost use Rattle.std.specs.declared.result.Result.the-variants.{Ok, Err};
-ghost use Rattle.fields.specs.Fields.{header-at, body-at, stepped};
+ghost use Rattle.fields.specs.Fields.{tag-at, header-at, body-at, stepped};
 use crate::Header;
 use refusals::Reason;
 use refusals::Refusal;
@@ -32,6 +32,17 @@ impl<'a> Reader<'a> {
     {
         let here = self.at;
         here
+    }
+
+    /// The tag of the header at hand; none if the three bytes of a header are not there.
+    pub fn peek(&self) -> Option<u8>
+        ensures { λ r. ⌜ r ≡ tag-at (now (now (self .entry) .input)) (now (self .entry) .at) ⌝ }
+    {
+        let place = self.at;
+        if self.input.len() - place < 3 {
+            return None;
+        }
+        Some(self.input[place])
     }
 
     /// Reads the header of the field whose tag is due.

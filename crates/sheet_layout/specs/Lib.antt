@@ -1,0 +1,4 @@
+pub mod Sheets
+pub mod Reading
+pub mod Stages
+pub mod Layout
