@@ -2,13 +2,13 @@ ghost use Rattle.std.specs.Prelude.{◌≡◌, ℕ, true, false, List, ◌++◌,
 ghost use Rattle.desk.specs.Faults.{undone, foreseen};
 ghost use Rattle.desk.specs.Held.{Fresh, Same};
 
+use crate::any_levels::Levels;
 use crate::arguments::Words;
 use crate::buffers::Buffers;
 use crate::commands::{Command, Part};
 use crate::draft::Draft;
 use crate::faults::Fault;
 use crate::kinds::AnyFilter;
-use crate::makes::Levels;
 use crate::plans::Plan;
 use crate::register::Register;
 use crate::shown::write_refusal;

@@ -2,11 +2,11 @@
 ghost use Rattle.std.specs.Prelude.{◌≡◌, true};
 ghost use Rattle.desk.specs.Faults.{undone};
 
+use crate::any_levels::{Levels, Source};
 use crate::arguments;
 use crate::arguments::Words;
 use crate::buffers::Buffers;
 use crate::faults::Fault;
-use crate::makes::{Levels, Source};
 use crate::plans::Plan;
 use crate::register::Register;
 use filters::Hashing;

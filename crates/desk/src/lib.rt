@@ -1,5 +1,6 @@
 //! What the console holds, and the commands on it.
 mod altering;
+mod any_levels;
 mod arguments;
 mod buffers;
 mod bytes;
@@ -14,7 +15,6 @@ mod filtering;
 mod hashing;
 mod kinds;
 mod leveling;
-mod makes;
 mod numbers;
 mod pass;
 mod plans;

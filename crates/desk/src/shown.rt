@@ -1,4 +1,5 @@
 use refusals::Refusal;
+use std::alloc::AllocError;
 use std::fmt;
 use std::fmt::Write;
 
@@ -16,7 +17,7 @@ impl<'a> fmt::Display for Hex<'a> {
 }
 
 /// The answer of what does not accept something.
-pub(crate) fn write_refusal(refusal: Refusal, out: &mut String) -> fmt::Result {
+pub(crate) fn write_refusal(refusal: Refusal, out: &mut String) -> Result<(), AllocError> {
     let number = refusal.reason.number();
     let tag = refusal.tag;
     let place = refusal.place;

@@ -60,11 +60,11 @@ pub trait Filter: Sized {
 
     /// Adds an identifier, and says whether it was taken; one that isn't changes nothing.
     fn put<I: Identifier>(&mut self, id: &I) -> bool
-        ensures { (result, view self.new) ≡ after_put kind (view self.old) (form id.now) };
+        ensures { (result, view self.new) ≡ after_put kind (view self.old) (I.form id.now) };
 
     /// Whether it says yes to an identifier.
     fn ask<I: Identifier>(&self, id: &I) -> bool
-        ensures { result ≡ kind.says (view self.now) (form id.now) };
+        ensures { result ≡ kind.says (view self.now) (I.form id.now) };
 
     /// How many bytes it saves.
     fn saved_len(&self) -> usize

@@ -24,7 +24,7 @@ pub trait Decider: Sized {
 
     /// The side of an identifier, and the source of the decision.
     fn ask<I: Identifier>(&self, id: &I) -> (Side, u8)
-        ensures { (result.0, result.1) ≡ decider.decides (state self.now) (form id.now) };
+        ensures { (result.0, result.1) ≡ decider.decides (state self.now) (I.form id.now) };
 
     /// Builds it from a register under the marks beside it; `sizes` has a table size for each level.
     fn build<I: Identifier>(
@@ -36,8 +36,8 @@ pub trait Decider: Sized {
     ) -> Result<(), Refusal>
         requires { length list.now ≡ length marks.old }
         ensures { MatchResult result
-            (λ _. decider.build at sizes.now (rows form list.now marks.old) ≡ Ok (state self.new))
-            (λ e. decider.build at sizes.now (rows form list.now marks.old) ≡ Err e) };
+            (λ _. decider.build at sizes.now (rows I.form list.now marks.old) ≡ Ok (state self.new))
+            (λ e. decider.build at sizes.now (rows I.form list.now marks.old) ≡ Err e) };
 
     /// Whether the fields that it saves as this level fit so many bytes.
     fn fits(&self, level: u8, room: usize) -> bool

@@ -1,8 +1,9 @@
 -- The order of forms is strict and total, and the comparison of slices decides it.
 use Rattle.std.proofs.Common.{◌≡◌, ℕ, suc, ◌<◌, Bool, true, false, cond, eqb, ltb, ◌⊎◌, List, [], ◌∷◌, Decides, Ordering, Less, Equal, Greater, sym, refl, ap, ◌∙◌, inl, inr, ⊎_elim, arith}
-use Rattle.std.specs.Ordering.{MatchOrdering}
+use Rattle.std.specs.Ordering.{MatchOrdering, nat_cmp, ordering_then}
 use Rattle.std.proofs.lemmas.Bool.{cases_order, cases_eq, eq-eqb, ne_eqb, lt-ltb, ltb-true, cond-true, cond-false, true≢false, both_ways}
-use Rattle.std.specs.Cmp.Lexicographic.{Lex}
+use Rattle.std.specs.Cmp.Lexicographic.{slice_cmp}
+use Rattle.std.specs.Cmp.{ranks}
 use Rattle.passes.specs.Order.{Before, shorter, lower, later, before, StrictOrder}
 
 onward : {x y z : List ℕ} → Before x y → Before y z → Before x z
@@ -50,11 +51,14 @@ same_first b x y Less h = later h
 same_first b x y Equal h = ap (λ (t : List ℕ). b ∷ t) h
 same_first b x y Greater h = later h
 
+step : (a b : ℕ) (x y : List ℕ) (t r : Ordering) → MatchOrdering t (a < b) (a ≡ b) (b < a) → MatchOrdering r (Before x y) (x ≡ y) (Before y x) → MatchOrdering (ordering_then t r) (Before (a ∷ x) (b ∷ y)) (a ∷ x ≡ b ∷ y) (Before (b ∷ y) (a ∷ x))
+step a b x y Less r h k = lower h
+step a b x y Equal r h k = rw h (same_first b x y r k)
+step a b x y Greater r h k = lower h
+
 -- what the comparison of slices answers
-pub ranked : (x y : List ℕ) (r : Ordering) → Lex (λ a b t. MatchOrdering t (a < b) (a ≡ b) (b < a)) x y r → MatchOrdering r (Before x y) (x ≡ y) (Before y x)
-ranked [] [] r e = rw e refl
-ranked [] (b ∷ y) r e = rw e shorter
-ranked (a ∷ x) [] r e = rw e shorter
-ranked (a ∷ x) (b ∷ y) r (Less, h, k) = rw k (lower h)
-ranked (a ∷ x) (b ∷ y) r (Equal, h, k) = rw h (same_first b x y r (ranked x y r k))
-ranked (a ∷ x) (b ∷ y) r (Greater, h, k) = rw k (lower h)
+pub ranked : (x y : List ℕ) → MatchOrdering (slice_cmp nat_cmp x y) (Before x y) (x ≡ y) (Before y x)
+ranked [] [] = refl
+ranked [] (b ∷ y) = shorter
+ranked (a ∷ x) [] = shorter
+ranked (a ∷ x) (b ∷ y) = step a b x y (nat_cmp a b) (slice_cmp nat_cmp x y) (ranks a b) (ranked x y)

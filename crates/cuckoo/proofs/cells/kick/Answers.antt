@@ -9,7 +9,7 @@ loop-j-init c = (refl, c.search.invariant.0, rw add-zero)
 
 pub loop-j-preserved : goal.loop-j-preserved
 loop-j-preserved c =
-    (c.loop-j.invariant.0, c.loop-j.invariant.1, c.loop-j.invariant.2 ∙ into_next c.loop-j.cells (4 * c.partner-of-i.result) c.loop-j.j _ c.loop-j-test.true c.if-cells-at-eq0.false)
+    (c.loop-j.invariant.0, c.loop-j.invariant.1, c.loop-j.invariant.2 ∙ into_next c.loop-j.cells (4 * c.partner_of-i.result) c.loop-j.j _ c.loop-j-test.true c.if-cells-at-eq0.false)
 
 pub search-preserved : goal.search-preserved
 search-preserved c =
@@ -19,11 +19,11 @@ search-preserved c =
     let at = 4 * i + n % 4 in
     let g = get_or c.search.cells at 0 in
     let u = set c.search.cells at c.search.f in
-    let r = c.partner-of-i.result in
-    let p = sym c.partner-of-i.ensures.is in
+    let r = c.partner_of-i.result in
+    let p = sym c.partner_of-i.ensures.is in
     let same = sym c.loop-j.invariant.0 in (
       c.loop-j.invariant.1,
-      c.partner-of-i.ensures.low,
+      c.partner_of-i.ensures.low,
       c.search.invariant.2
           ∙ kick_on (partner b) n i c.search.f c.search.cells c.search-test.true
           (ap (λ (q : ℕ). put_into u (4 * q) 4 g) p ∙ ap (λ (x : List ℕ). put_into x (4 * r) 4 g) same ∙ c.loop-j.invariant.2 ∙ into_end c.loop-j.cells _ g c.loop-j.j c.loop-j-test.false)
@@ -44,8 +44,8 @@ returns-then-cells-at-eq0 c =
     let at = 4 * i + n % 4 in
     let g = get_or c.search.cells at 0 in
     let u = set c.search.cells at c.search.f in
-    let r = c.partner-of-i.result in
-    let p = sym c.partner-of-i.ensures.is in
+    let r = c.partner_of-i.result in
+    let p = sym c.partner_of-i.ensures.is in
     let same = sym c.loop-j.invariant.0 in
     c.search.invariant.2
     ∙ kick_found (partner b) n i c.search.f c.search.cells _ c.search-test.true

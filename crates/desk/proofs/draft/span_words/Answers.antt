@@ -9,4 +9,4 @@ passes-init c = c.new-fields.ensures.items
 
 pub passes-preserved : goal.passes-preserved
 passes-preserved c =
-    words_more c.args.side c.args.span.now c.passes.i (vec_items c.passes.fields) (vec_items c.extend-from-slice.new.self) (vec_items c.in-ok-word.field-0) c.as-bytes.result.now c.pass.result c.passes.invariant (c.in-ok-extend-from-slice.ensures.items ∙ ap (λ (t : List ℕ). vec_items c.passes.fields ++ t) c.deref.ensures.value) c.in-ok-word.ensures (c.as-bytes.ensures ∙ c.written-form.ensures) c.pass.ensures
+    words_more c.args.side c.args.span.now c.passes.i (vec_items c.passes.fields) (vec_items c.extend_from_slice.new.self) (vec_items c.in_ok-word.field-0) c.as_bytes.result.now c.pass.result c.passes.invariant (c.in_ok-extend_from_slice.ensures.items ∙ ap (λ (t : List ℕ). vec_items c.passes.fields ++ t) c.deref.ensures.value) c.in_ok-word.ensures (c.as_bytes.ensures ∙ c.written-form.ensures) c.pass.ensures

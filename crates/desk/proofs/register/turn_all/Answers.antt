@@ -7,22 +7,22 @@ pub turns-init : goal.turns-init
 unfolding turned
 turns-init c = refl
 
-pub overflow-mul-step : goal.overflow-mul-step
-overflow-mul-step c =
+pub overflow_mul-step : goal.overflow_mul-step
+overflow_mul-step c =
     let before : c.turns.i ≤ c.args.count - 1 = omega arith in
     let long : length c.args.list.now < 2 ^ 64 = search rules in
     omega (arith, c.requires, mul-le-mul_left c.args.step before)
 
-pub overflow-add-index : goal.overflow-add-index
-overflow-add-index c =
+pub overflow_add-index : goal.overflow_add-index
+overflow_add-index c =
     let before : c.turns.i ≤ c.args.count - 1 = omega arith in
     let long : length c.args.list.now < 2 ^ 64 = search rules in
     omega (arith, c.requires, mul-le-mul_left c.args.step before)
 
-pub turn-at-requires : goal.turn-at-requires
-turn-at-requires c =
+pub turn_at-requires : goal.turn_at-requires
+turn_at-requires c =
     let before : c.turns.i ≤ c.args.count - 1 = omega arith in
     omega (arith, c.requires, c.turns.auto.list, mul-le-mul_left c.args.step before)
 
 pub turns-preserved : goal.turns-preserved
-turns-preserved c = turned_more c.args.index c.args.step c.turns.i c.args.list.now c.turns.list c.turn-at.new.list c.turns.invariant c.turn-at.ensures
+turns-preserved c = turned_more c.args.index c.args.step c.turns.i c.args.list.now c.turns.list c.turn_at.new.list c.turns.invariant c.turn_at.ensures

@@ -16,7 +16,7 @@ returns c =
     let from = c.min-start.result in
     let serial : ℕ → List ℕ → List ℕ = λ k t. take (20 - (20 - k)) (drop (20 - k) (bytes t)) in
     ap (λ p. p.1) c.fill.ensures.after
-    ∙ ap (λ (h : ChipPass). (filled h i (serial from c.copy-from-slice.new.self)).1) c.new-chip.ensures
-    ∙ ap (λ (t : List ℕ). (filled first_chip i (serial from t)).1) (c.copy-from-slice.ensures.after ∙ c.to-be-bytes.ensures)
+    ∙ ap (λ (h : ChipPass). (filled h i (serial from c.copy_from_slice.new.self)).1) c.new-chip.ensures
+    ∙ ap (λ (t : List ℕ). (filled first_chip i (serial from t)).1) (c.copy_from_slice.ensures.after ∙ c.to_be_bytes.ensures)
     ∙ ap (λ (t : List ℕ). (filled first_chip i t).1) (to_end (20 - from) (bytes (be8 c.args.number)) refl)
     ∙ ap (λ (k : ℕ). (filled first_chip i (drop (20 - k) (bytes (be8 c.args.number)))).1) c.min-start.ensures

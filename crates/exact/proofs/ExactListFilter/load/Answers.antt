@@ -9,14 +9,14 @@ use Rattle.exact.proofs.ExactListFilter.load.Goals as goal
 refused : Refusal → Result (Unit {0}) Refusal
 refused y = Err y
 
-pub returns-in-err-judge : goal.returns-in-err-judge
+pub returns-in_err-judge : goal.returns-in_err-judge
 unfolding refused
-returns-in-err-judge c =
+returns-in_err-judge c =
     let me = c.args.self.now in
     let body = c.args.body.now in
     let h = c.args.hashing in
     let old = exact_view me.hashing (take me.len me.table) in
-    let p = err_from_is_err_and c.from-residual.result c.from-residual.ensures.1 in
-    let q = c.in-err-judge.ensures in
+    let p = err_from_is_err_and c.from_residual.result c.from_residual.ensures.1 in
+    let q = c.in_err-judge.ensures in
     ap (λ (r : Result (Unit {0}) Refusal). (r, old)) (p.1 ∙ ap refused p.2 ∙ q)
-    ∙ refused_load (judged exact_kind h.hashes body) c.in-err-judge.field-0.0 (exact_kind.loaded h body) old q
+    ∙ refused_load (judged exact_kind h.hashes body) c.in_err-judge.field-0.0 (exact_kind.loaded h body) old q

@@ -10,13 +10,13 @@ returns g c =
     let out = c.args.out.now in
     let tag = c.args.tag in
     let saved = g.F.Filter.kind.saved (g.F.Filter.view c.args.filter.now) in
-    let n = c.saved-len-n.result in
+    let n = c.saved_len-n.result in
     let three = tag ∷ (length saved / 256 % 256) ∷ (length saved % 256) ∷ [] in
-    let head = header_bytes tag n saved c.copy-from-slice.new.self c.saved-len-n.ensures (simp c.to-be-bytes-len.ensures at c.copy-from-slice.ensures.after) in
-    let out1 = c.copy-from-slice.new.self ++ drop 3 out in
+    let head = header_bytes tag n saved c.copy_from_slice.new.self c.saved_len-n.ensures (simp c.to_be_bytes-len.ensures at c.copy_from_slice.ensures.after) in
+    let out1 = c.copy_from_slice.new.self ++ drop 3 out in
     let first : Wrote three out out1 3 = record { size = refl; room = omega (arith, c.if-out-lt3.false); bytes = ap (λ (h : List ℕ). h ++ drop 3 out) head } in
     let left = behind three out out1 3 first in
-    let second = wrote_fits saved (take (length out1 - 3) (drop 3 out1)) c.save.new.out c.save.result c.save.ensures (omega (arith, ap length left, length-drop 3 out, c.if-out-n.false, c.saved-len-n.ensures)) in
+    let second = wrote_fits saved (take (length out1 - 3) (drop 3 out1)) c.save.new.out c.save.result c.save.ensures (omega (arith, ap length left, length-drop 3 out, c.if-out-n.false, c.saved_len-n.ensures)) in
     let now-out = put_mid 3 (length out1 - 3) out1 c.save.new.out in
     let counted : ℕ → Option ℕ × List ℕ = λ k. (Some (3 + k), now-out) in
-    ap counted c.saved-len-n.ensures ∙ writes (three ++ saved) out now-out (3 + length saved) (chain three saved out out1 c.save.new.out 3 (length saved) first second)
+    ap counted c.saved_len-n.ensures ∙ writes (three ++ saved) out now-out (3 + length saved) (chain three saved out out1 c.save.new.out 3 (length saved) first second)

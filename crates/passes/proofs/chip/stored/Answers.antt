@@ -10,7 +10,7 @@ returns c =
     let xs = c.args.serial.now in
     let k = length xs in
     let low : (i : ℕ) → get_or xs i 0 < 256 = λ i. search rules in
-    let z = over_zeros xs c.copy-from-slice.new.self k c.copy-from-slice.ensures.after refl in
+    let z = over_zeros xs c.copy_from_slice.new.self k c.copy_from_slice.ensures.after refl in
     let made : List ℕ → ChipPass = λ s. record { issuer = c.args.issuer; n = k - 1; serial = s } in
     record {
       is = ap made z;

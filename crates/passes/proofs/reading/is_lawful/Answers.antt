@@ -15,5 +15,5 @@ pub returns : goal.returns
 returns c =
     let xs = c.args.bytes.now in
     let low : (i : ℕ) → get_or xs i 0 < 256 = λ i. search rules in
-    let e = c.may-begin.ensures ∙ lawful_long xs c.if-bytes-lt4.false (bytes_from xs low) in
+    let e = c.may_begin.ensures ∙ lawful_long xs c.if-bytes-lt4.false (bytes_from xs low) in
     record { value = e; meaning = Decides-at _ (lawful xs) e (decides_lawful xs) }

@@ -7,19 +7,19 @@ pub returns-then-bytes-eq84 : goal.returns-then-bytes-eq84
 returns-then-bytes-eq84 c =
     let xs = c.args.bytes.now in
     let low : (i : ℕ) → get_or xs i 0 < 256 = λ i. search rules in
-    let l = c.if-not-is-lawful.ensures.meaning.0 refl in
+    let l = c.if-not-is_lawful.ensures.meaning.0 refl in
     record {
-      test = c.if-not-is-lawful.ensures.value;
-      form = tag_back xs low c.issuer-of-issuer.result c.from-be-bytes-number.result (tag_length xs l c.if-bytes-eq84.true) c.if-bytes-eq84.true c.issuer-of-issuer.ensures c.from-be-bytes-number.ensures;
+      test = c.if-not-is_lawful.ensures.value;
+      form = tag_back xs low c.issuer_of-issuer.result c.from_be_bytes-number.result (tag_length xs l c.if-bytes-eq84.true) c.if-bytes-eq84.true c.issuer_of-issuer.ensures c.from_be_bytes-number.ensures;
     }
 
 pub returns-else-bytes-eq84 : goal.returns-else-bytes-eq84
 returns-else-bytes-eq84 c =
     let xs = c.args.bytes.now in
     let low : (i : ℕ) → get_or xs i 0 < 256 = λ i. search rules in
-    let l = c.if-not-is-lawful.ensures.meaning.0 refl in
+    let l = c.if-not-is_lawful.ensures.meaning.0 refl in
     let size = lawful_length l in
     record {
-      test = c.if-not-is-lawful.ensures.value;
-      form = chip_back xs low c.issuer-of-issuer.result (take (length xs - 3) (drop 3 xs)) size.0 size.1 (chip_first xs l c.if-bytes-eq84.false) c.issuer-of-issuer.ensures refl;
+      test = c.if-not-is_lawful.ensures.value;
+      form = chip_back xs low c.issuer_of-issuer.result (take (length xs - 3) (drop 3 xs)) size.0 size.1 (chip_first xs l c.if-bytes-eq84.false) c.issuer_of-issuer.ensures refl;
     }

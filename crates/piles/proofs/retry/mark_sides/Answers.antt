@@ -12,10 +12,10 @@ loop-i-preserved g c =
     let i = c.loop-i.i in
     let long : i < length ns = omega (arith, c.loop-i.auto.marks, c.requires, c.loop-i-test.true) in
     let P : ℕ → ℕ → Type 0 = λ j y. (e : Entry g.row.I.Denot) → y ≡ mark_of (get_or es j e).side in
-    let here : P i c.mark-of.result =
-    λ e. c.mark-of.ensures ∙ ap (λ (x : Entry g.row.I.Denot). mark_of x.side) (c.index-list-i.is ∙ get_d_any es i c.index-list-i.result e c.loop-i-test.true)
+    let here : P i c.mark_of.result =
+    λ e. c.mark_of.ensures ∙ ap (λ (x : Entry g.row.I.Denot). mark_of x.side) (c.index-list-i.is ∙ get_d_any es i c.index-list-i.result e c.loop-i-test.true)
     in
-    let more = marks_more ns i c.mark-of.result P long (λ j l e. c.loop-i.invariant j e l) here in
+    let more = marks_more ns i c.mark_of.result P long (λ j l e. c.loop-i.invariant j e l) here in
     λ j e l. more j l e
 
 pub returns : goal.returns

@@ -9,58 +9,58 @@ use Rattle.publications.proofs.Layouts.{layout_law, reading}
 use Rattle.publications.proofs.Answering.{moved, refused_decides, accepted_written, make_known, tables_part}
 use Rattle.publication_layout.proofs.reader.read_publication.Goals as goal
 
-pub returns-in-err-head : goal.returns-in-err-head
-returns-in-err-head g c =
+pub returns-in_err-head : goal.returns-in_err-head
+returns-in_err-head g c =
     let makes = known_makes g.A.Decider.decider.tables g.B.Decider.decider.tables g.G.Decider.decider.tables c.args.own in
-    let p = err_from_is_err_and c.from-residual.result c.from-residual.ensures.1 in
+    let p = err_from_is_err_and c.from_residual.result c.from_residual.ensures.1 in
     let input = c.args.input.now in
     let new = c.new-reader.ensures in
     let r0 = c.new-reader.result in
-    let got = c.in-err-head.ensures.verdict in
+    let got = c.in_err-head.ensures.verdict in
     let e = stop_head makes input p.0 (moved (head_at makes) r0.input.now input r0.at 0 (Err p.0) new.0 new.1 (got ∙ ap Err (sym p.2))) in
-    record { value = rw p.1 e; meaning = refused_decides makes input c.from-residual.result p.0 p.1 e; law = layout_law makes }
+    record { value = rw p.1 e; meaning = refused_decides makes input c.from_residual.result p.0 p.1 e; law = layout_law makes }
 
-pub returns-in-err-coverage : goal.returns-in-err-coverage
-returns-in-err-coverage g c =
+pub returns-in_err-coverage : goal.returns-in_err-coverage
+returns-in_err-coverage g c =
     let makes = known_makes g.A.Decider.decider.tables g.B.Decider.decider.tables g.G.Decider.decider.tables c.args.own in
-    let p = err_from_is_err_and c.from-residual-in-err-coverage.result c.from-residual-in-err-coverage.ensures.1 in
+    let p = err_from_is_err_and c.from_residual-in_err-coverage.result c.from_residual-in_err-coverage.ensures.1 in
     let input = c.args.input.now in
     let new = c.new-reader.ensures in
     let r0 = c.new-reader.result in
-    let r1 = c.read-head.new.reader in
-    let h = c.in-ok-head.head in
-    let head = c.in-ok-head.ensures in
+    let r1 = c.read_head.new.reader in
+    let h = c.in_ok-head.head in
+    let head = c.in_ok-head.ensures in
     let a0 = new.1 in
     let a1 = head.verdict.1 in
     let read-h = moved (head_at makes) r0.input.now input r0.at 0 (Ok h) new.0 a0 head.verdict.0 in
-    let got = c.in-err-coverage.ensures.verdict in
+    let got = c.in_err-coverage.ensures.verdict in
     let e = stop_coverage makes input h read-h p.0 (moved (table_in coverage_judge 0x02 h.hashes) r1.input.now input r1.at 12 (Err p.0) (head.input ∙ new.0) (omega arith) (got ∙ ap Err (sym p.2))) in
-    record { value = rw p.1 e; meaning = refused_decides makes input c.from-residual-in-err-coverage.result p.0 p.1 e; law = layout_law makes }
+    record { value = rw p.1 e; meaning = refused_decides makes input c.from_residual-in_err-coverage.result p.0 p.1 e; law = layout_law makes }
 
-pub judge-tables-requires : goal.judge-tables-requires
-judge-tables-requires g c =
+pub judge_tables-requires : goal.judge_tables-requires
+judge_tables-requires g c =
     let makes = known_makes g.A.Decider.decider.tables g.B.Decider.decider.tables g.G.Decider.decider.tables c.args.own in
     let input = c.args.input.now in
     let low : (i : ℕ) → get_or input i 0 < 256 = λ i. search rules in
     let new = c.new-reader.ensures in
     let r0 = c.new-reader.result in
-    let h = c.in-ok-head.head in
-    let head = c.in-ok-head.ensures in
+    let h = c.in_ok-head.head in
+    let head = c.in_ok-head.ensures in
     make_known makes input h (bytes_from input low) (moved (head_at makes) r0.input.now input r0.at 0 (Ok h) new.0 new.1 head.verdict.0)
 
-pub returns-in-err-judge-tables : goal.returns-in-err-judge-tables
-returns-in-err-judge-tables g c =
+pub returns-in_err-judge_tables : goal.returns-in_err-judge_tables
+returns-in_err-judge_tables g c =
     let makes = known_makes g.A.Decider.decider.tables g.B.Decider.decider.tables g.G.Decider.decider.tables c.args.own in
-    let p = err_from_is_err_and c.from-residual-in-err-judge-tables.result c.from-residual-in-err-judge-tables.ensures.1 in
+    let p = err_from_is_err_and c.from_residual-in_err-judge_tables.result c.from_residual-in_err-judge_tables.ensures.1 in
     let input = c.args.input.now in
     let new = c.new-reader.ensures in
     let r0 = c.new-reader.result in
-    let r1 = c.read-head.new.reader in
-    let r2 = c.read-coverage.new.reader in
-    let h = c.in-ok-head.head in
-    let head = c.in-ok-head.ensures in
-    let rows = c.in-ok-coverage.coverage.now in
-    let cover = c.in-ok-coverage.ensures in
+    let r1 = c.read_head.new.reader in
+    let r2 = c.read_coverage.new.reader in
+    let h = c.in_ok-head.head in
+    let head = c.in_ok-head.ensures in
+    let rows = c.in_ok-coverage.coverage.now in
+    let cover = c.in_ok-coverage.ensures in
     let a0 = new.1 in
     let a1 = head.verdict.1 in
     let a2 = cover.verdict.1 in
@@ -68,23 +68,23 @@ returns-in-err-judge-tables g c =
     let read-c = moved (table_in coverage_judge 0x02 h.hashes) r1.input.now input r1.at 12 (Ok rows) (head.input ∙ new.0) (omega arith) cover.verdict.0 in
     let i2 = cover.input ∙ head.input ∙ new.0 in
     let at2 : r2.at ≡ 15 + length rows = omega arith in
-    let got = c.in-err-judge-tables.ensures.verdict in
+    let got = c.in_err-judge_tables.ensures.verdict in
     let e = stop_tables makes input h read-h rows read-c p.0 (moved (tables_at (known_tables (makes h.make)) 1 h.hashes) r2.input.now input r2.at (15 + length rows) (Err p.0) i2 at2 (got ∙ ap Err (sym p.2))) in
-    record { value = rw p.1 e; meaning = refused_decides makes input c.from-residual-in-err-judge-tables.result p.0 p.1 e; law = layout_law makes }
+    record { value = rw p.1 e; meaning = refused_decides makes input c.from_residual-in_err-judge_tables.result p.0 p.1 e; law = layout_law makes }
 
-pub returns-in-err-check : goal.returns-in-err-check
-returns-in-err-check g c =
+pub returns-in_err-check : goal.returns-in_err-check
+returns-in_err-check g c =
     let makes = known_makes g.A.Decider.decider.tables g.B.Decider.decider.tables g.G.Decider.decider.tables c.args.own in
-    let p = err_from_is_err_and c.from-residual-in-err-check.result c.from-residual-in-err-check.ensures.1 in
+    let p = err_from_is_err_and c.from_residual-in_err-check.result c.from_residual-in_err-check.ensures.1 in
     let input = c.args.input.now in
     let new = c.new-reader.ensures in
     let r0 = c.new-reader.result in
-    let r1 = c.read-head.new.reader in
-    let r2 = c.read-coverage.new.reader in
-    let h = c.in-ok-head.head in
-    let head = c.in-ok-head.ensures in
-    let rows = c.in-ok-coverage.coverage.now in
-    let cover = c.in-ok-coverage.ensures in
+    let r1 = c.read_head.new.reader in
+    let r2 = c.read_coverage.new.reader in
+    let h = c.in_ok-head.head in
+    let head = c.in_ok-head.ensures in
+    let rows = c.in_ok-coverage.coverage.now in
+    let cover = c.in_ok-coverage.ensures in
     let a0 = new.1 in
     let a1 = head.verdict.1 in
     let a2 = cover.verdict.1 in
@@ -92,16 +92,16 @@ returns-in-err-check g c =
     let read-c = moved (table_in coverage_judge 0x02 h.hashes) r1.input.now input r1.at 12 (Ok rows) (head.input ∙ new.0) (omega arith) cover.verdict.0 in
     let i2 = cover.input ∙ head.input ∙ new.0 in
     let at2 : r2.at ≡ 15 + length rows = omega arith in
-    let r3 = c.judge-tables.new.reader in
-    let tables = c.in-ok-judge-tables.ensures in
+    let r3 = c.judge_tables.new.reader in
+    let tables = c.in_ok-judge_tables.ensures in
     let bs = tables.verdict.0 in
     let read-t = moved (tables_at (known_tables (makes h.make)) 1 h.hashes) r2.input.now input r2.at (15 + length rows) (Ok bs) i2 at2 tables.verdict.1 in
     let a3 = tables.verdict.2 in
     let i3 = tables.input ∙ i2 in
     let at3 : r3.at ≡ 15 + length rows + length (table_fields 1 bs) = omega arith in
-    let got = c.in-err-check.ensures.verdict in
+    let got = c.in_err-check.ensures.verdict in
     let e = stop_check makes input h read-h rows read-c bs read-t p.0 (moved check_at r3.input.now input r3.at (15 + length rows + length (table_fields 1 bs)) (Err p.0) i3 at3 (got ∙ ap Err (sym p.2))) in
-    record { value = rw p.1 e; meaning = refused_decides makes input c.from-residual-in-err-check.result p.0 p.1 e; law = layout_law makes }
+    record { value = rw p.1 e; meaning = refused_decides makes input c.from_residual-in_err-check.result p.0 p.1 e; law = layout_law makes }
 
 pub returns : goal.returns
 returns g c =
@@ -109,12 +109,12 @@ returns g c =
     let input = c.args.input.now in
     let new = c.new-reader.ensures in
     let r0 = c.new-reader.result in
-    let r1 = c.read-head.new.reader in
-    let r2 = c.read-coverage.new.reader in
-    let h = c.in-ok-head.head in
-    let head = c.in-ok-head.ensures in
-    let rows = c.in-ok-coverage.coverage.now in
-    let cover = c.in-ok-coverage.ensures in
+    let r1 = c.read_head.new.reader in
+    let r2 = c.read_coverage.new.reader in
+    let h = c.in_ok-head.head in
+    let head = c.in_ok-head.ensures in
+    let rows = c.in_ok-coverage.coverage.now in
+    let cover = c.in_ok-coverage.ensures in
     let a0 = new.1 in
     let a1 = head.verdict.1 in
     let a2 = cover.verdict.1 in
@@ -122,8 +122,8 @@ returns g c =
     let read-c = moved (table_in coverage_judge 0x02 h.hashes) r1.input.now input r1.at 12 (Ok rows) (head.input ∙ new.0) (omega arith) cover.verdict.0 in
     let i2 = cover.input ∙ head.input ∙ new.0 in
     let at2 : r2.at ≡ 15 + length rows = omega arith in
-    let r3 = c.judge-tables.new.reader in
-    let tables = c.in-ok-judge-tables.ensures in
+    let r3 = c.judge_tables.new.reader in
+    let tables = c.in_ok-judge_tables.ensures in
     let bs = tables.verdict.0 in
     let read-t = moved (tables_at (known_tables (makes h.make)) 1 h.hashes) r2.input.now input r2.at (15 + length rows) (Ok bs) i2 at2 tables.verdict.1 in
     let a3 = tables.verdict.2 in
@@ -131,7 +131,7 @@ returns g c =
     let at3 : r3.at ≡ 15 + length rows + length (table_fields 1 bs) = omega arith in
     let low : (i : ℕ) → get_or input i 0 < 256 = λ i. search rules in
     let real = bytes_from input low in
-    let end = c.in-ok-check.ensures in
+    let end = c.in_ok-check.ensures in
     let read-e = moved check_at r3.input.now input r3.at (15 + length rows + length (table_fields 1 bs)) (Ok tt) i3 at3 end.verdict.0 in
     let e = all_read makes input h read-h rows read-c bs read-t tt read-e in
     let parts = reading makes input real h read-h rows read-c bs read-t tt read-e in

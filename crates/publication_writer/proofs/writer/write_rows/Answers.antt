@@ -6,15 +6,15 @@ use Rattle.publications.specs.Publications.{row_bytes, rows_bytes}
 use Rattle.publications.specs.Layout.{no_row}
 use Rattle.publication_writer.proofs.writer.write_rows.Goals as goal
 
-pub write-row-requires : goal.write-row-requires
-write-row-requires c =
+pub write_row-requires : goal.write_row-requires
+write_row-requires c =
     let l : c.rows.row-index < length c.args.rows.now = omega arith in
     next_room row_bytes c.args.rows.now c.rows.row-index no_row l c.args.out.now c.rows.out c.rows.at c.rows.invariant c.requires
 
 pub rows-preserved : goal.rows-preserved
 rows-preserved c =
     let l : c.rows.row-index < length c.args.rows.now = omega arith in
-    next_wrote row_bytes c.args.rows.now c.rows.row-index no_row l c.args.out.now c.rows.out c.rows.at c.rows.invariant c.requires 7 c.write-row.new.out refl c.write-row.ensures
+    next_wrote row_bytes c.args.rows.now c.rows.row-index no_row l c.args.out.now c.rows.out c.rows.at c.rows.invariant c.requires 7 c.write_row.new.out refl c.write_row.ensures
 
 pub returns : goal.returns
 returns c =

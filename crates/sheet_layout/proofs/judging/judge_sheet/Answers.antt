@@ -15,16 +15,16 @@ fields-init c =
     let t = at_start reader.stage c.args.input.now reader.last.now reader.reader.at (record { number = 0; step = 0 }) made.1 made.2 made.3 in
     (made.0, t.0, t.1)
 
-pub returns-in-err-head : goal.returns-in-err-head
-returns-in-err-head c =
-    let p = err_from_is_err_and c.from-residual.result c.from-residual.ensures.1 in
+pub returns-in_err-head : goal.returns-in_err-head
+returns-in_err-head c =
+    let p = err_from_is_err_and c.from_residual.result c.from_residual.ensures.1 in
     let input = c.args.input.now in
     let low : (i : ℕ) → get_or input i 0 < 256 = λ i. search rules in
     let now = c.fields.reader in
     let inv = c.fields.invariant in
-    let step = c.in-err-head.ensures.step in
+    let step = c.in_err-head.ensures.step in
     let e = p.1 ∙ at_refusal now.stage now.reader.input.now input now.last.now now.reader.at c.fields.sheet (then (reads input) (λ s. Ok (summary s))) inv.0 inv.1 p.0 (step ∙ ap Err (sym p.2)) in
-    record { value = e; meaning = judge_decides input c.from-residual.result (bytes_from input low) e; law = layout_law }
+    record { value = e; meaning = judge_decides input c.from_residual.result (bytes_from input low) e; law = layout_law }
 
 pub fields-preserved-in-Head : goal.fields-preserved-in-Head
 fields-preserved-in-Head c =
@@ -32,8 +32,8 @@ fields-preserved-in-Head c =
     let now = c.fields.reader in
     let next = c.next.new.self in
     let inv = c.fields.invariant in
-    let got = c.in-ok-head.ensures in
-    let t = again_head now.stage now.reader.input.now input now.last.now now.reader.at c.fields.sheet (then (reads input) (λ s. Ok (summary s))) inv.0 inv.1 (content_of c.in-ok-head.field-0) c.in-Head.head (standing next.stage next.last.now next.reader.at) got.step (ap content_of c.in-Head.is) inv.2 in
+    let got = c.in_ok-head.ensures in
+    let t = again_head now.stage now.reader.input.now input now.last.now now.reader.at c.fields.sheet (then (reads input) (λ s. Ok (summary s))) inv.0 inv.1 (content_of c.in_ok-head.field-0) c.in-Head.head (standing next.stage next.last.now next.reader.at) got.step (ap content_of c.in-Head.is) inv.2 in
     (got.input ∙ inv.0, t.0, t.1)
 
 pub fields-preserved : goal.fields-preserved
@@ -42,8 +42,8 @@ fields-preserved c =
     let now = c.fields.reader in
     let next = c.next.new.self in
     let inv = c.fields.invariant in
-    let got = c.in-ok-head.ensures in
-    let t = again_word now.stage now.reader.input.now input now.last.now now.reader.at c.fields.sheet (then (reads input) (λ s. Ok (summary s))) inv.0 inv.1 (content_of c.in-ok-head.field-0) (word_of c.in-Word.field-0) (standing next.stage next.last.now next.reader.at) got.step (ap content_of c.in-Word.is) inv.2 in
+    let got = c.in_ok-head.ensures in
+    let t = again_word now.stage now.reader.input.now input now.last.now now.reader.at c.fields.sheet (then (reads input) (λ s. Ok (summary s))) inv.0 inv.1 (content_of c.in_ok-head.field-0) (word_of c.in-Word.field-0) (standing next.stage next.last.now next.reader.at) got.step (ap content_of c.in-Word.is) inv.2 in
     (got.input ∙ inv.0, t.0, t.1)
 
 pub returns-in-End : goal.returns-in-End
@@ -53,6 +53,6 @@ returns-in-End c =
     let now = c.fields.reader in
     let next = c.next.new.self in
     let inv = c.fields.invariant in
-    let got = c.in-ok-head.ensures in
-    let e = at_end now.stage now.reader.input.now input now.last.now now.reader.at c.fields.sheet (then (reads input) (λ s. Ok (summary s))) inv.0 inv.1 (content_of c.in-ok-head.field-0) (standing next.stage next.last.now next.reader.at) got.step (ap content_of c.in-End.is) in
+    let got = c.in_ok-head.ensures in
+    let e = at_end now.stage now.reader.input.now input now.last.now now.reader.at c.fields.sheet (then (reads input) (λ s. Ok (summary s))) inv.0 inv.1 (content_of c.in_ok-head.field-0) (standing next.stage next.last.now next.reader.at) got.step (ap content_of c.in-End.is) in
     record { value = e; meaning = judge_decides input (Ok c.fields.sheet) (bytes_from input low) e; law = layout_law }

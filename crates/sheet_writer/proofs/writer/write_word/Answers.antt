@@ -4,6 +4,6 @@ use Rattle.sheet_writer.proofs.writer.write_word.Goals as goal
 
 pub returns : goal.returns
 returns c =
-    word_bytes c.args.word (length c.args.word.form.now) c.args.out.now c.copy-from-slice.new.self c.copy-from-slice-2.new.self refl
-    (simp (c.to-be-bytes-len.ensures, c.side_byte.ensures) at c.copy-from-slice.ensures.after)
-    c.copy-from-slice-2.ensures.after
+    word_bytes c.args.word (length c.args.word.form.now) c.args.out.now c.copy_from_slice.new.self c.copy_from_slice-2.new.self refl
+    (simp (c.to_be_bytes-len.ensures, c.side_byte.ensures) at c.copy_from_slice.ensures.after)
+    c.copy_from_slice-2.ensures.after

@@ -9,9 +9,9 @@ use Rattle.sheet_writer.proofs.writer.write_words.Goals as goal
 blank : SheetWord
 blank = record { side = Good; form = record { ref_ptr = (0, 0); now = [] } }
 
-pub write-word-requires : goal.write-word-requires
+pub write_word-requires : goal.write_word-requires
 unfolding blank
-write-word-requires c =
+write_word-requires c =
     let l : c.words.word-index < length c.args.words.now = omega arith in
     word_room c.args.words.now c.words.word-index blank l c.args.out.now c.words.out c.words.at c.words.invariant c.requires
 
@@ -19,7 +19,7 @@ pub words-preserved : goal.words-preserved
 unfolding blank
 words-preserved c =
     let l : c.words.word-index < length c.args.words.now = omega arith in
-    word_wrote c.args.words.now c.words.word-index blank l c.args.out.now c.words.out c.words.at c.words.invariant c.requires c.write-word.new.out c.write-word.ensures
+    word_wrote c.args.words.now c.words.word-index blank l c.args.out.now c.words.out c.words.at c.words.invariant c.requires c.write_word.new.out c.write_word.ensures
 
 pub returns : goal.returns
 returns c =

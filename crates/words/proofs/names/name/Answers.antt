@@ -16,4 +16,4 @@ returns c =
     let w = c.args.word.now in
     let all : lettered w ≡ true = search rules in
     let is : is_name w ≡ true = grind (arith, nat_tests) in
-    ap (option_map (λ s. s.now)) c.ok.ensures.value ∙ text_of _ w c.from-utf8.result (name_utf8 w all) c.from-utf8.ensures.cases ∙ sym (ap (λ b. cond b (Some w) None) is)
+    ap (option_map (λ s. s.now)) c.ok.ensures.value ∙ text_of _ w c.from_utf8.result (name_utf8 w all) c.from_utf8.ensures.cases ∙ sym (ap (λ b. cond b (Some w) None) is)

@@ -2,14 +2,14 @@ use Rattle.std.proofs.Common.{◌≡◌, ◌≤◌, length, sym, ◌∙◌, arit
 use Rattle.words.proofs.Steps.{reads_digit, reads_none, reads_all, ten_more}
 use Rattle.words.proofs.numbers.value.Goals as goal
 
-pub returns-then-not-is-ascii-digit : goal.returns-then-not-is-ascii-digit
-returns-then-not-is-ascii-digit c =
-    sym (reads_none c.loop-byte.value c.args.digits.now c.loop-byte.byte-index c.loop-byte-test.true (sym c.if-not-is-ascii-digit.ensures.value)) ∙ c.loop-byte.invariant.0
+pub returns-then-not-is_ascii_digit : goal.returns-then-not-is_ascii_digit
+returns-then-not-is_ascii_digit c =
+    sym (reads_none c.loop-byte.value c.args.digits.now c.loop-byte.byte-index c.loop-byte-test.true (sym c.if-not-is_ascii_digit.ensures.value)) ∙ c.loop-byte.invariant.0
 
 pub loop-byte-preserved : goal.loop-byte-preserved
 loop-byte-preserved c = (
-  rw c.from.ensures (sym (reads_digit c.loop-byte.value c.args.digits.now c.loop-byte.byte-index c.loop-byte-test.true (sym c.if-not-is-ascii-digit.ensures.value)) ∙ c.loop-byte.invariant.0),
-  omega (arith, ten_more c.loop-byte.byte-index, c.if-not-is-ascii-digit.ensures.cases),
+  rw c.from.ensures (sym (reads_digit c.loop-byte.value c.args.digits.now c.loop-byte.byte-index c.loop-byte-test.true (sym c.if-not-is_ascii_digit.ensures.value)) ∙ c.loop-byte.invariant.0),
+  omega (arith, ten_more c.loop-byte.byte-index, c.if-not-is_ascii_digit.ensures.cases),
 )
 
 pub returns : goal.returns

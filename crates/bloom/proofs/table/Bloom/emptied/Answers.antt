@@ -5,8 +5,8 @@ use Rattle.passes.specs.ByteLaws.{bytes_zeros}
 use Rattle.bloom.specs.Rules.{ranges}
 use Rattle.bloom.proofs.table.Bloom.emptied.Goals as goal
 
-pub invariant-of-result : goal.invariant-of-result
-invariant-of-result c = ((length-replicate {A = ℕ} 2048 0, bytes_zeros 2048, c.requires), tt)
+pub invariant_of-result : goal.invariant_of-result
+invariant_of-result c = record { ok = (length-replicate {A = ℕ} 2048 0, bytes_zeros 2048, c.requires) }
 
 pub returns : goal.returns
 returns c =

@@ -10,20 +10,20 @@ store-requires c =
     let me = c.args.self.now in
     let s = me.settings in
     let r = ranges s.size s.hashing.hashes me.ok.2 in
-    (r.two, (home_within s me.ok.2 c.place-of-place.result.bucket c.args.pair.h1 c.place-of-place.ensures.0, (omega arith, front_quarter s me.ok.2 me.cells me.ok.0)))
+    (r.two, (home_within s me.ok.2 c.place_of-place.result.bucket c.args.pair.h1 c.place_of-place.ensures.0, (omega arith, front_quarter s me.ok.2 me.cells me.ok.0)))
 
-pub invariant-of-self : goal.invariant-of-self
-invariant-of-self c =
+pub invariant_of-self : goal.invariant_of-self
+invariant_of-self c =
     let me = c.args.self.now in
     let s = me.settings in
     let ok = me.ok in
     let r = ranges s.size s.hashing.hashes ok.2 in
     let h = c.args.pair in
     let part = c.store.new.cells in
-    let e = put_by s ok.2 me.cells part h c.place-of-place.result.bucket c.place-of-place.result.fingerprint c.store.result c.place-of-place.ensures.0 c.place-of-place.ensures.1 c.store.ensures in
+    let e = put_by s ok.2 me.cells part h c.place_of-place.result.bucket c.place_of-place.result.fingerprint c.store.result c.place_of-place.ensures.0 c.place_of-place.ensures.1 c.store.ensures in
     let z = put_fits s ok.2 me.cells part h c.store.result ok.0 ok.1 e in
     let l : s.size ≤ length me.cells = omega arith in
-    ((front_length s.size part me.cells z.0 l ∙ ok.0, front_bytes s.size part me.cells z.0 l z.1 ok.1, ok.2), tt)
+    record { ok = (front_length s.size part me.cells z.0 l ∙ ok.0, front_bytes s.size part me.cells z.0 l z.1 ok.1, ok.2) }
 
 pub returns : goal.returns
 returns c =
@@ -33,7 +33,7 @@ returns c =
     let r = ranges s.size s.hashing.hashes ok.2 in
     let h = c.args.pair in
     let part = c.store.new.cells in
-    let e = put_by s ok.2 me.cells part h c.place-of-place.result.bucket c.place-of-place.result.fingerprint c.store.result c.place-of-place.ensures.0 c.place-of-place.ensures.1 c.store.ensures in
+    let e = put_by s ok.2 me.cells part h c.place_of-place.result.bucket c.place_of-place.result.fingerprint c.store.result c.place_of-place.ensures.0 c.place_of-place.ensures.1 c.store.ensures in
     let z = put_fits s ok.2 me.cells part h c.store.result ok.0 ok.1 e in
     let l : s.size ≤ length me.cells = omega arith in
     ap (λ (t : List ℕ). (c.store.result, record { settings = s; cells = t })) (front_is s.size part me.cells z.0 l)

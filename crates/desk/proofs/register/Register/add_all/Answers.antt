@@ -9,4 +9,4 @@ passes-init c = sym (append-nil _)
 
 pub passes-preserved : goal.passes-preserved
 passes-preserved c =
-    entries_more c.args.sides c.args.span.now c.passes.i (vec_items c.args.self.now.list) (vec_items c.passes.self.list) (vec_items c.push.new.self) c.pass-id.result c.at-side.result c.passes.invariant c.in-ok-push.ensures.items c.pass-id.ensures c.at-side.ensures
+    entries_more c.args.sides c.args.span.now c.passes.i (vec_items c.args.self.now.list) (vec_items c.passes.self.list) (vec_items c.push.new.self) c.pass-id.result c.at-side.result c.passes.invariant c.in_ok-push.ensures.items c.pass-id.ensures c.at-side.ensures

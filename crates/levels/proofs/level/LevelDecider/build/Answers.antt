@@ -16,5 +16,5 @@ returns g c =
     let rest = take (length sizes - 1) (drop 1 sizes) in
     let below = rows f es c.turn.new.marks in
     let same = ap (λ (h : Hashing). d.build h rest below) (sym c.deeper.ensures) in
-    level_built g.F.Filter.kind d at (get_or sizes 0 0) sizes rest (rows f es c.args.marks.now) below (g.F.Filter.view c.begin.new.filter) (g.D.Decider.state c.build.new.self) c.build.result (split_first sizes some) c.in-ok-begin.ensures c.turn.ensures
+    level_built g.F.Filter.kind d at (get_or sizes 0 0) sizes rest (rows f es c.args.marks.now) below (g.F.Filter.view c.begin.new.filter) (g.D.Decider.state c.build.new.self) c.build.result (split_first sizes some) c.in_ok-begin.ensures c.turn.ensures
     (MatchResult-weaker c.build.result c.build.ensures (λ _ p. same ∙ p) (λ e p. same ∙ p))

@@ -7,8 +7,8 @@ use Rattle.levels.specs.Deciders.{tag_of, next}
 use Rattle.passes.proofs.Outputs.{Wrote, wrote, wrote_none, wrote_to as writes, chain, behind}
 use Rattle.levels.proofs.level.LevelDecider.save.Goals as goal
 
-pub returns-in-err-n : goal.returns-in-err-n
-returns-in-err-n g c =
+pub returns-in_err-n : goal.returns-in_err-n
+returns-in_err-n g c =
     let me = c.args.self.now in
     let out = c.args.out.now in
     let level = c.args.level in
@@ -17,15 +17,15 @@ returns-in-err-n g c =
     let more = g.D.Decider.decider.saved (next level) (g.D.Decider.state me.below) in
     let fits = leb-true (length (mine ++ more)) (length out) (sym c.if-not-fits.ensures) in
     let both = length-append mine more in
-    let short = wrote_none mine out c.write-table.new.out (c.in-err-n.ensures ∙ ap (λ (t : ℕ). written_to (field t body) out) c.tag-of.ensures) in
+    let short = wrote_none mine out c.write_table.new.out (c.in_err-n.ensures ∙ ap (λ (t : ℕ). written_to (field t body) out) c.tag_of.ensures) in
     absurd (omega arith)
 
-pub returns-in-err-m : goal.returns-in-err-m
-returns-in-err-m g c =
+pub returns-in_err-m : goal.returns-in_err-m
+returns-in_err-m g c =
     let me = c.args.self.now in
     let out = c.args.out.now in
-    let out1 = c.write-table.new.out in
-    let n = c.in-ok-n.n in
+    let out1 = c.write_table.new.out in
+    let n = c.in_ok-n.n in
     let level = c.args.level in
     let d = g.D.Decider.decider in
     let low = g.D.Decider.state me.below in
@@ -34,10 +34,10 @@ returns-in-err-m g c =
     let more = d.saved (next level) low in
     let fits = leb-true (length (mine ++ more)) (length out) (sym c.if-not-fits.ensures) in
     let both = length-append mine more in
-    let first = wrote mine out out1 n (c.in-ok-n.ensures ∙ ap (λ (t : ℕ). written_to (field t body) out) c.tag-of.ensures) in
+    let first = wrote mine out out1 n (c.in_ok-n.ensures ∙ ap (λ (t : ℕ). written_to (field t body) out) c.tag_of.ensures) in
     let left = behind mine out out1 n first in
     let rest = take (length out1 - n) (drop n out1) in
-    let short = wrote_none more rest c.save.new.out (c.in-err-m.ensures ∙ ap (λ (l : ℕ). written_to (d.saved l low) rest) c.saturating-add.ensures) in
+    let short = wrote_none more rest c.save.new.out (c.in_err-m.ensures ∙ ap (λ (l : ℕ). written_to (d.saved l low) rest) c.saturating_add.ensures) in
     let size = ap length left in
     let tail = length-drop (length mine) out in
     absurd (omega arith)
@@ -46,16 +46,16 @@ pub returns : goal.returns
 returns g c =
     let me = c.args.self.now in
     let out = c.args.out.now in
-    let out1 = c.write-table.new.out in
-    let n = c.in-ok-n.n in
-    let m = c.in-ok-m.m in
+    let out1 = c.write_table.new.out in
+    let n = c.in_ok-n.n in
+    let m = c.in_ok-m.m in
     let level = c.args.level in
     let d = g.D.Decider.decider in
     let low = g.D.Decider.state me.below in
     let body = g.F.Filter.kind.saved (g.F.Filter.view me.filter) in
     let mine = field (tag_of level) body in
     let more = d.saved (next level) low in
-    let first = wrote mine out out1 n (c.in-ok-n.ensures ∙ ap (λ (t : ℕ). written_to (field t body) out) c.tag-of.ensures) in
+    let first = wrote mine out out1 n (c.in_ok-n.ensures ∙ ap (λ (t : ℕ). written_to (field t body) out) c.tag_of.ensures) in
     let rest = take (length out1 - n) (drop n out1) in
-    let second = wrote more rest c.save.new.out m (c.in-ok-m.ensures ∙ ap (λ (l : ℕ). written_to (d.saved l low) rest) c.saturating-add.ensures) in
+    let second = wrote more rest c.save.new.out m (c.in_ok-m.ensures ∙ ap (λ (l : ℕ). written_to (d.saved l low) rest) c.saturating_add.ensures) in
     writes (mine ++ more) out (put_mid n (length out1 - n) out1 c.save.new.out) (n + m) (chain mine more out out1 c.save.new.out n m first second)

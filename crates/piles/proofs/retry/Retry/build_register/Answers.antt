@@ -27,10 +27,10 @@ returns g c =
     let n = length_listed g.I.Identifier.form es in
     let rs = listed g.I.Identifier.form es in
     let enough = cond-false (ltb work (length rs)) _ _ (le-ltb work (length rs) (omega (arith, c.if-marks-n.false))) in
-    let part = c.try-salts.new.marks in
+    let part = c.try_salts.new.marks in
     let size : length part ≡ length es = search rules in
     record {
-      built = MatchResult-weaker c.try-salts.result c.try-salts.ensures (λ _ p. enough ∙ p) (λ e p. enough ∙ p);
+      built = MatchResult-weaker c.try_salts.result c.try_salts.ensures (λ _ p. enough ∙ p) (λ e p. enough ∙ p);
       law = outcome g.D.Decider.decider;
       zero = c.drop-marks-2.ensures ∙ ap (λ (k : ℕ). replicate k 0) (front_length (length es) part bytes size (omega (arith, c.if-marks-n.false)));
     }
