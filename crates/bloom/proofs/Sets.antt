@@ -1,11 +1,11 @@
 -- Setting positions sets those bits and no other.
-use Rattle.std.proofs.Common.{◌≡◌, ℕ, zero, suc, ◌+◌, ◌-◌, ◌*◌, ◌/◌, ◌%◌, ◌^◌, ◌<◌, ◌≤◌, Bool, true, false, eqb, ◌⊎◌, List, length, get_or, set, Decides, sym, refl, ap, ◌∙◌, inl, inr, ⊎_elim, arith, get_or-set_other, get_or-set_same}
+use Rattle.std.proofs.Common.{◌≡◌, ℕ, zero, suc, ◌+◌, ◌-◌, ◌*◌, ◌/◌, ◌%◌, ◌^◌, ◌<◌, eqb, List, length, get_or, sym, refl, ap, ◌∙◌, inl, inr, ⊎_elim, arith, get_or-set_other, get_or-set_same}
 use lib.Bits.{bit_or, or_zero_r}
 use native.Mathlib.Nat.{div-eq_of_lt}
-use Rattle.std.proofs.lemmas.Nat.{or_shr, or_mod, pow-add, pow_below, shl-shr, mod_below}
+use Rattle.std.proofs.lemmas.Nat.{or_shr, or_mod, pow-add, pow_below, shl-shr}
 use Rattle.std.proofs.lemmas.Bool.{cases_eq, cases_order}
 use Rattle.bloom.specs.Bits.{bit, with_bit, position, with_all, SetsThese}
-use Rattle.bloom.specs.Rules.{bit_set_same, length_with_all, within}
+use Rattle.bloom.specs.Rules.{bit_set_same, within}
 
 -- the digit i of a power of two
 other_digit : (i j : ℕ) → (i ≡ j → ⊥) → 2 ^ j / 2 ^ i % 2 ≡ 0

@@ -1,5 +1,5 @@
 -- One turn of each loop over positions, and a table of which the front is in use.
-use Rattle.std.proofs.Common.{◌≡◌, ℕ, zero, suc, ◌+◌, ◌-◌, ◌*◌, ◌/◌, ◌%◌, ◌^◌, ◌<◌, ◌≤◌, Bool, true, false, ◌&&◌, ◌≢◌, List, length, get_or, take, set, sym, refl, ap, ◌∙◌, ⊎_elim, add-one, arith, length-take, eq-eqb, ne_eqb}
+use Rattle.std.proofs.Common.{◌≡◌, ℕ, zero, suc, ◌+◌, ◌-◌, ◌*◌, ◌/◌, ◌%◌, ◌^◌, ◌<◌, ◌≤◌, true, false, ◌≢◌, List, length, get_or, take, set, ap, ◌∙◌, ⊎_elim, add-one, arith, length-take, eq-eqb, ne_eqb}
 use lib.Bits.{bit_or, bit_and}
 use native.Mathlib.Nat.{sub-zero}
 use Rattle.std.proofs.lemmas.Nat.{one_shl, and_mask}

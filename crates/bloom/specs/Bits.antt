@@ -1,5 +1,5 @@
 -- The bits of a table of bytes, and the positions of an identifier in a Bloom filter.
-use Rattle.std.specs.Prelude.{◌≡◌, ℕ, zero, suc, ◌+◌, ◌*◌, ◌/◌, ◌%◌, ◌^◌, ◌<◌, Bool, true, false, ◌&&◌, ◌⊎◌, List, length, set, Decides, ◌==◌, bit_or, slice_index, slice_set}
+use Rattle.std.specs.Prelude.{◌≡◌, ℕ, zero, suc, ◌+◌, ◌*◌, ◌/◌, ◌%◌, ◌^◌, ◌<◌, Bool, true, ◌&&◌, ◌⊎◌, List, length, Decides, ◌==◌, bit_or, slice_index, slice_set}
 
 -- bit n has the weight 2^(n mod 8) in byte n / 8
 unfoldable pub bit : List ℕ → ℕ → Bool

@@ -3,9 +3,8 @@ use Rattle.std.specs.Prelude.{ℕ, ◌*◌, Bool, true, ◌&&◌, List, length, 
 use Rattle.passes.specs.Bytes.{bytes}
 use Rattle.passes.specs.Seeds.{hash_pair}
 use Rattle.passes.specs.declared.identifier.HashPair.{HashPair}
-use Rattle.filters.specs.declared.Hashing.{Hashing}
 use Rattle.filters.specs.declared.Settings.{Settings}
-use Rattle.filters.specs.Kind.{Kind, hashes_allowed, fine}
+use Rattle.filters.specs.Kind.{Kind, fine}
 use Rattle.bloom.specs.Bits.{with_all, has_all}
 use Rattle.bloom.specs.Setting.{bloom_allows, bloom_measures, first_settings}
 

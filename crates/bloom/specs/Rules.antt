@@ -1,16 +1,15 @@
 -- The Bloom filter keeps the rules of a filter.
-use Rattle.std.specs.Prelude.{◌≡◌, ℕ, zero, suc, ◌+◌, ◌*◌, ◌/◌, ◌%◌, ◌^◌, ◌<◌, ◌≤◌, Bool, true, false, ◌&&◌, ◌≢◌, ◌⊎◌, List, [], ◌∷◌, length, set, replicate, None, ◌==◌, bit_or, nat_le, slice_index, refl}
-use Rattle.std.proofs.Common.{sym, ap, ◌∙◌, inl, inr, ⊎_elim, length-set, length-take, get_or-set_same, get_or-set_other, arith, leb-true, eqb-true, eq-eqb}
+use Rattle.std.specs.Prelude.{◌≡◌, ℕ, zero, suc, ◌+◌, ◌*◌, ◌/◌, ◌%◌, ◌^◌, ◌<◌, ◌≤◌, true, false, ◌⊎◌, List, length, replicate, None, ◌==◌, bit_or, nat_le, slice_index, refl}
+use Rattle.std.proofs.Common.{ap, ◌∙◌, inl, inr, ⊎_elim, length-set, length-take, get_or-set_same, get_or-set_other, arith, leb-true, eqb-true, eq-eqb}
 use Rattle.std.proofs.lemmas.List.{length-replicate}
 use Rattle.std.proofs.Math.Nat.{div_self, zero-div}
-use Rattle.std.proofs.lemmas.Nat.{mod_below, or_shr, or_mod, or_comm, pow_pos, shl-shr, or_lt, pow_below}
-use Rattle.std.proofs.lemmas.Bool.{and_parts, and_from, and_right, cases_eq, cases_lt, lt-ltb, ltb-true, cases_Bool, cond-true, cond-false, true≢false}
+use Rattle.std.proofs.lemmas.Nat.{mod_below, or_shr, or_mod, or_comm, pow_pos, or_lt, pow_below}
+use Rattle.std.proofs.lemmas.Bool.{and_parts, and_from, and_right, cases_eq, cases_lt}
 use Rattle.passes.specs.Bytes.{bytes}
 use Rattle.passes.specs.ByteLaws.{bytes_at, bytes_set, bytes_zeros, bytes_take}
-use Rattle.filters.specs.declared.Hashing.{Hashing}
 use Rattle.filters.specs.declared.Settings.{Settings}
-use Rattle.filters.specs.Kind.{Kind, Rules, hashes_allowed, judged}
-use Rattle.filters.specs.Judged.{Fitting, fitting, accepted_from}
+use Rattle.filters.specs.Kind.{Rules, hashes_allowed, judged}
+use Rattle.filters.specs.Judged.{fitting, accepted_from}
 use Rattle.bloom.specs.Bits.{bit, with_bit, position, with_all, has_all}
 use Rattle.bloom.specs.Setting.{bloom_allows, bloom_measures, first_settings}
 use Rattle.bloom.specs.Bloom.{BloomView, bloom_kind, bloom_view, pair_of}

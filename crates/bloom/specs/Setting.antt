@@ -1,6 +1,5 @@
 -- The settings that a Bloom filter allows.
 use Rattle.std.specs.Prelude.{ℕ, Bool, ◌&&◌, nat_le}
-use Rattle.filters.specs.declared.Hashing.{Hashing}
 use Rattle.filters.specs.declared.Settings.{Settings}
 use Rattle.filters.specs.Kind.{hashes_allowed}
 

@@ -1,4 +1,6 @@
 //! The Bloom filter.
+#![tactic(auto)]
+
 ghost use Rattle.std.specs.Prelude.{◌≡◌, ℕ, ◌+◌, ◌*◌, ◌<◌, ◌≤◌, Bool, true, false, List, length};
 ghost use Rattle.bloom.specs.Bits.{position, with_all, has_all, SetsThese};
 ghost use Rattle.bloom.specs.Setting.{bloom_allows};

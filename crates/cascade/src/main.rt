@@ -1,4 +1,6 @@
 //! The gate console as a program: commands on standard input, answers on standard output.
+#![tactic(auto)]
+
 use console::Console;
 use std::io;
 

@@ -1,5 +1,5 @@
 -- The buckets of a table in use, and what a put leaves in it.
-use Rattle.std.proofs.Common.{◌≡◌, ℕ, ◌-◌, ◌*◌, ◌/◌, ◌%◌, ◌<◌, Bool, true, false, List, length, take, is_some, Some, None, Option, unwrap_or, sym, refl, ap, ◌∙◌, arith, length-take}
+use Rattle.std.proofs.Common.{◌≡◌, ℕ, ◌-◌, ◌*◌, ◌/◌, ◌%◌, ◌<◌, Bool, true, List, length, take, is_some, Some, None, Option, unwrap_or, sym, refl, ap, ◌∙◌, arith, length-take}
 use native.Mathlib.Nat.{sub-zero}
 use Rattle.std.proofs.lemmas.Nat.{mod_below}
 use Rattle.passes.specs.Bytes.{bytes}

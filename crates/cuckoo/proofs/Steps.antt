@@ -1,5 +1,5 @@
 -- One turn of the loops over cells and kicks.
-use Rattle.std.proofs.Common.{◌≡◌, ℕ, zero, suc, ◌+◌, ◌-◌, ◌*◌, ◌/◌, ◌%◌, ◌^◌, ◌<◌, ◌≤◌, Bool, true, false, cond, eqb, List, length, get_or, set, Some, None, Option, sym, refl, ap, ◌∙◌, add_assoc, arith, eq-eqb, ne_eqb}
+use Rattle.std.proofs.Common.{◌≡◌, ℕ, zero, suc, ◌+◌, ◌-◌, ◌*◌, ◌%◌, ◌<◌, ◌≤◌, List, get_or, set, Some, None, Option, ◌∙◌, arith, eq-eqb, ne_eqb}
 use Rattle.cuckoo.specs.Cells.{put_into, or_else, kicked}
 
 pub into_here : (t : List ℕ) (c k f : ℕ) → 0 < k → get_or t c 0 ≡ 0 → put_into t c k f ≡ Some (set t c f)

@@ -1,5 +1,5 @@
 -- The cells of a cuckoo table: buckets of four, each cell a byte, 0 if it is empty.
-use Rattle.std.specs.Prelude.{ℕ, zero, suc, ◌+◌, ◌*◌, ◌/◌, ◌%◌, ◌^◌, Bool, true, false, cond, ◌||◌, List, Some, None, Option, ◌==◌, bit_xor, slice_index, slice_index_or, slice_set}
+use Rattle.std.specs.Prelude.{ℕ, zero, suc, ◌+◌, ◌*◌, ◌%◌, ◌^◌, Bool, false, cond, ◌||◌, List, Some, None, Option, ◌==◌, bit_xor, slice_index, slice_index_or, slice_set}
 
 -- what stands for an identifier in a cell, never 0
 abbrev pub fingerprint : ℕ → ℕ

@@ -4,7 +4,6 @@ use Rattle.std.specs.Option.{unwrap_or}
 use Rattle.passes.specs.Bytes.{bytes}
 use Rattle.passes.specs.Seeds.{hash_pair}
 use Rattle.passes.specs.declared.identifier.HashPair.{HashPair}
-use Rattle.filters.specs.declared.Hashing.{Hashing}
 use Rattle.filters.specs.declared.Settings.{Settings}
 use Rattle.filters.specs.Kind.{Kind, fine}
 use Rattle.cuckoo.specs.Cells.{fingerprint, partner, stands, stored}

@@ -1,19 +1,18 @@
 -- The cuckoo filter keeps the rules of a filter.
-use Rattle.std.specs.Prelude.{◌≡◌, ℕ, zero, suc, ◌+◌, ◌*◌, ◌/◌, ◌%◌, ◌^◌, ◌<◌, ◌≤◌, Bool, true, false, ◌&&◌, ◌||◌, ◌⊎◌, List, [], ◌∷◌, length, replicate, is_some, Some, None, Option, ◌==◌, ◌≢◌, bit_xor, nat_le, slice_index, refl}
-use Rattle.std.proofs.Common.{sym, ap, ◌∙◌, inl, inr, ⊎_elim, length-take, pow-suc, arith, leb-true, eqb-true, eq-eqb}
+use Rattle.std.specs.Prelude.{◌≡◌, ℕ, zero, suc, ◌+◌, ◌*◌, ◌/◌, ◌%◌, ◌^◌, ◌<◌, ◌≤◌, true, false, ◌&&◌, ◌⊎◌, List, length, replicate, is_some, Some, None, Option, ◌==◌, ◌≢◌, bit_xor, nat_le, slice_index, refl}
+use Rattle.std.proofs.Common.{sym, ap, ◌∙◌, inl, inr, length-take, pow-suc, arith, leb-true, eqb-true, eq-eqb}
 use Rattle.std.proofs.lemmas.List.{length-replicate}
 use Rattle.std.specs.Int.Bits.{xor_assoc, xor_self, xor_zero_r}
 use Rattle.std.specs.Option.{unwrap_or}
 use Rattle.std.proofs.lemmas.Nat.{mod_below, xor_lt}
-use Rattle.std.proofs.lemmas.Bool.{and_parts, and_from, cases_Bool, ne_eqb, or_from, false≢true}
+use Rattle.std.proofs.lemmas.Bool.{and_parts, and_from, ne_eqb, or_from, false≢true}
 use Rattle.passes.specs.Bytes.{bytes}
 use Rattle.passes.specs.ByteLaws.{bytes_zeros, bytes_take}
 use Rattle.passes.specs.declared.identifier.HashPair.{HashPair}
-use Rattle.filters.specs.declared.Hashing.{Hashing}
 use Rattle.filters.specs.declared.Settings.{Settings}
-use Rattle.filters.specs.Kind.{Kind, Rules, hashes_allowed, judged}
-use Rattle.filters.specs.Judged.{Fitting, fitting, accepted_from}
-use Rattle.cuckoo.specs.Cells.{spread, partner, holds, stands, stored, fingerprint}
+use Rattle.filters.specs.Kind.{Rules, hashes_allowed, judged}
+use Rattle.filters.specs.Judged.{fitting, accepted_from}
+use Rattle.cuckoo.specs.Cells.{spread, partner, holds, fingerprint}
 use Rattle.cuckoo.specs.Powers.{power_of_two, powers}
 use Rattle.cuckoo.specs.Setting.{cuckoo_allows, cuckoo_measures, first_settings}
 use Rattle.cuckoo.specs.Keeping.{At, at_stands, stands_at, stored_keeps, stored_sized}

@@ -1,6 +1,5 @@
 -- The settings that a cuckoo filter allows.
 use Rattle.std.specs.Prelude.{ℕ, Bool, ◌&&◌, nat_le}
-use Rattle.filters.specs.declared.Hashing.{Hashing}
 use Rattle.filters.specs.declared.Settings.{Settings}
 use Rattle.filters.specs.Kind.{hashes_allowed}
 use Rattle.cuckoo.specs.Powers.{power_of_two}

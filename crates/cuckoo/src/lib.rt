@@ -1,4 +1,6 @@
 //! The cuckoo filter.
+#![tactic(auto)]
+
 ghost use Rattle.std.specs.Prelude.{◌≡◌, ℕ, Bool, true, false};
 ghost use Rattle.cuckoo.specs.Setting.{cuckoo_allows, cuckoo_measures};
 ghost use Rattle.cuckoo.specs.Cuckoo.{CuckooView, cuckoo_kind, cuckoo_view, after_pair, says_pair};

@@ -1,11 +1,10 @@
 -- A field and a check written at the end of bytes. Assumes nothing.
-use Rattle.std.proofs.Common.{◌≡◌, ℕ, ◌+◌, ◌-◌, ◌/◌, ◌%◌, ◌≤◌, cond, leb, List, [], ◌∷◌, ◌++◌, length, take, drop, is_ok, IfOk, Ok, Err, Result, sym, refl, ap, ◌∙◌, arith}
+use Rattle.std.proofs.Common.{◌≡◌, ℕ, ◌+◌, ◌-◌, ◌/◌, ◌%◌, ◌≤◌, cond, leb, List, [], ◌∷◌, ◌++◌, length, take, drop, is_ok, IfOk, Ok, Err, Result, sym, ap, ◌∙◌, arith}
 use lib.Bits.{bit_and}
 use borrow.Rule.Slice.PartMut.{put_mid}
 use Rattle.std.proofs.lemmas.Nat.{and_mask}
 use Rattle.std.proofs.lemmas.List.{append_assoc, append-nil, drop-drop, drop_all}
 use Rattle.std.proofs.lemmas.Bool.{cond-true, le-leb}
-use Rattle.passes.specs.Bytes.{be2}
 use Rattle.murmur.specs.Hash.{murmur}
 use Rattle.fields.specs.Fields.{field}
 use Rattle.fields.specs.Reading.{be4, check_field, checked}

@@ -1,5 +1,5 @@
 -- The passes of a span.
-use Rattle.std.specs.Prelude.{ℕ, ◌+◌, ◌-◌, ◌*◌, min, List, [], ◌∷◌, ◌++◌, drop, replicate}
+use Rattle.std.specs.Prelude.{ℕ, ◌+◌, ◌-◌, ◌*◌, min, List, ◌++◌, drop, replicate}
 use Rattle.passes.specs.Bytes.{be8}
 use Rattle.passes.specs.Made.{first_chip, filled}
 use Rattle.passes.specs.declared.chip.ChipPass.{ChipPass}

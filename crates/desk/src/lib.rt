@@ -1,4 +1,6 @@
 //! What the console holds, and the commands on it.
+#![tactic(auto)]
+
 mod altering;
 mod any_levels;
 mod arguments;

@@ -1,4 +1,6 @@
 //! The exact list: a filter that says yes to exactly the identifiers put in, at most 64.
+#![tactic(auto)]
+
 ghost use Rattle.std.specs.Prelude.{◌≡◌, ◌<◌, true, false, take, Ok};
 ghost use Rattle.passes.specs.Lawful.{Lawful};
 ghost use Rattle.filters.specs.Kind.{judged};

@@ -3,14 +3,13 @@ use Rattle.std.specs.Prelude.{◌≡◌, ℕ, ◌%◌, List, [], ◌∷◌, map,
 use Rattle.refusals.specs.declared.Refusal.{Refusal}
 use Rattle.murmur.specs.Hash.{murmur}
 use Rattle.passes.specs.Forms.{tag_form}
-use Rattle.filters.specs.declared.Hashing.{Hashing}
 use Rattle.bloom.specs.Bits.{position}
 use Rattle.bloom.specs.Bloom.{BloomView, bloom_kind}
 use Rattle.cuckoo.specs.Cells.{fingerprint, partner}
 use Rattle.exact.specs.Exact.{ExactView, exact_kind}
 use Rattle.levels.specs.declared.Side.{Side}
 use Rattle.levels.specs.declared.Side.TheVariants.{For, Against}
-use Rattle.levels.specs.Rows.{Row, mark_of}
+use Rattle.levels.specs.Rows.{mark_of}
 use Rattle.levels.specs.Deciders.{Answer, Decides}
 use Rattle.piles.specs.Piles.{SixStates, six}
 

@@ -1,4 +1,6 @@
 //! Worked examples of the definitions, and tests against published values.
+#![tactic(auto)]
+
 ghost use Rattle.std.specs.Prelude.{◌≡◌};
 ghost use Rattle.examples.specs.Examples.{Examples};
 

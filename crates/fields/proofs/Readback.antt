@@ -1,17 +1,12 @@
 -- A field that was written is read back, wherever it stands in an input.
-use Rattle.std.proofs.Common.{◌≡◌, ℕ, ◌+◌, ◌-◌, ◌*◌, ◌/◌, ◌%◌, ◌<◌, ◌≤◌, true, false, cond, ◌&&◌, eqb, ltb, leb, ◌⊎◌, List, [], ◌∷◌, ◌++◌, length, get_or, take, drop, is_ok, Some, Ok, Err, Result, sym, refl, ap, ◌∙◌, ⊎_elim, add-zero, arith, length-drop, length-take, MatchResult}
-use Rattle.std.proofs.lemmas.List.{append_assoc, length-append, length-take-le, get_or-append-add, take_at, take_all, take-append-drop, drop_at, drop_more}
-use Rattle.std.proofs.lemmas.Bool.{cases_Bool, cond-true, cond-false, ltb-false, ne_eqb, eq-eqb, lt-ltb, le-ltb, eqb-true, le-leb, lt-leb, and_from, and_left, and_right, leb-true, and_parts}
-use Rattle.refusals.specs.declared.Reason.{Reason}
-use Rattle.refusals.specs.declared.Reason.TheVariants.{CutShort, WrongTag, BadLength, WrongCheck, BytesLeft}
-use Rattle.refusals.specs.declared.Refusal.{Refusal}
-use Rattle.refusals.specs.Numbers.{refused}
+use Rattle.std.proofs.Common.{◌≡◌, ℕ, ◌+◌, ◌-◌, ◌*◌, ◌/◌, ◌%◌, ◌<◌, ◌≤◌, true, false, ◌&&◌, eqb, ltb, leb, List, [], ◌∷◌, ◌++◌, length, get_or, take, drop, Some, Ok, sym, refl, ap, ◌∙◌, add-zero, arith}
+use Rattle.std.proofs.lemmas.List.{append_assoc, length-append, get_or-append-add, take_at, drop_at}
+use Rattle.std.proofs.lemmas.Bool.{cond-true, cond-false, eq-eqb, le-ltb, le-leb, and_from}
 use Rattle.murmur.specs.Hash.{murmur}
 use Rattle.passes.specs.Bytes.{bytes, be2}
-use Rattle.passes.specs.ByteLaws.{bytes_at, bytes_take, bytes_drop, bytes_append}
-use Rattle.fields.specs.declared.Header.{Header}
-use Rattle.fields.specs.Fields.{field, tag_at, header_at, body_at, stepped}
-use Rattle.fields.specs.Reading.{then, in_field, field_at, content_at, four, be4, check_field, checked, check_in, check_at}
+use Rattle.passes.specs.ByteLaws.{bytes_append}
+use Rattle.fields.specs.Fields.{field, tag_at, header_at, body_at}
+use Rattle.fields.specs.Reading.{field_at, four, be4, check_field, checked, check_at}
 use Rattle.fields.proofs.Numbers.{murmur_small, four_bytes, be2_bytes, be4_bytes}
 
 pub length_field : (tag : ℕ) (body : List ℕ) → length (field tag body) ≡ 3 + length body

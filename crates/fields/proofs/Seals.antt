@@ -1,11 +1,11 @@
 -- The check written behind the bytes of an output.
-use Rattle.std.proofs.Common.{◌≡◌, ℕ, ◌+◌, ◌-◌, ◌≤◌, leb, List, [], ◌∷◌, ◌++◌, length, take, drop, Some, None, Option, sym, refl, ap, ◌∙◌, arith}
+use Rattle.std.proofs.Common.{◌≡◌, ℕ, ◌+◌, ◌-◌, ◌≤◌, leb, List, ◌++◌, length, take, drop, Some, None, Option, sym, ap, ◌∙◌, arith}
 use borrow.Rule.Slice.PartMut.{put_mid}
 use Rattle.std.proofs.lemmas.List.{append_assoc, drop-drop}
 use Rattle.std.proofs.lemmas.Bool.{cond-true, le-leb}
 use Rattle.murmur.specs.Hash.{murmur}
 use Rattle.fields.specs.Fields.{field}
-use Rattle.fields.specs.Reading.{be4, check_field, checked}
+use Rattle.fields.specs.Reading.{be4, check_field}
 use Rattle.fields.specs.Sealing.{sealed}
 
 pub seals : (end check : ℕ) (out part : List ℕ) → end + 7 ≤ length out → check ≡ murmur 0 (take end out) → part ≡ field 0xFF (be4 check) → ◌≡◌ {A = Option ℕ × List ℕ} (Some (end + 7), put_mid end (end + 7 - end) out part) (sealed end out)

@@ -1,17 +1,14 @@
 -- Reading a field, step by step.
-use Rattle.std.proofs.Common.{◌≡◌, ℕ, ◌+◌, ◌-◌, ◌*◌, ◌/◌, ◌%◌, ◌<◌, ◌≤◌, true, false, cond, ◌&&◌, eqb, ltb, leb, ◌⊎◌, List, [], ◌∷◌, ◌++◌, length, get_or, take, drop, is_ok, Some, Ok, Err, Result, sym, refl, ap, ◌∙◌, ⊎_elim, add-zero, arith, length-drop, length-take, MatchResult}
-use Rattle.std.proofs.lemmas.List.{append_assoc, length-append, length-take-le, get_or-append-add, take_at, take_all, take-append-drop, drop_at, drop_more}
-use Rattle.std.proofs.lemmas.Bool.{cases_Bool, cond-true, cond-false, ltb-false, ne_eqb, eq-eqb, lt-ltb, le-ltb, eqb-true, le-leb, lt-leb, and_from, and_left, and_right, leb-true, and_parts}
+use Rattle.std.proofs.Common.{◌≡◌, ℕ, ◌+◌, ◌-◌, ◌*◌, ◌<◌, ◌≤◌, true, false, ◌&&◌, eqb, ltb, leb, ◌⊎◌, List, length, get_or, take, drop, is_ok, Ok, Err, Result, sym, ap, ◌∙◌, ⊎_elim, arith, length-drop, length-take, MatchResult}
+use Rattle.std.proofs.lemmas.Bool.{cases_Bool, cond-true, cond-false, ltb-false, ne_eqb, eq-eqb, lt-ltb, le-ltb, eqb-true, le-leb, lt-leb, and_from, and_left, and_right}
 use Rattle.refusals.specs.declared.Reason.{Reason}
 use Rattle.refusals.specs.declared.Reason.TheVariants.{CutShort, WrongTag, BadLength, WrongCheck, BytesLeft}
 use Rattle.refusals.specs.declared.Refusal.{Refusal}
 use Rattle.refusals.specs.Numbers.{refused}
 use Rattle.murmur.specs.Hash.{murmur}
-use Rattle.passes.specs.Bytes.{bytes, be2}
-use Rattle.passes.specs.ByteLaws.{bytes_at, bytes_take, bytes_drop, bytes_append}
 use Rattle.fields.specs.declared.Header.{Header}
-use Rattle.fields.specs.Fields.{field, tag_at, header_at, body_at, stepped}
-use Rattle.fields.specs.Reading.{then, in_field, field_at, content_at, four, be4, check_field, checked, check_in, check_at}
+use Rattle.fields.specs.Fields.{header_at, body_at, stepped}
+use Rattle.fields.specs.Reading.{field_at, content_at, four, check_at}
 
 pub never : {A E : Type 0} (e : E) (a : A) → ◌≡◌ {A = Result A E} (Err e) (Ok a) → ⊥
 never e a h = let z : ◌≡◌ {A = ℕ} 0 1 = cc in omega arith

@@ -1,4 +1,6 @@
 //! Fields: reading them one after the other from an input, and the check that ends them.
+#![tactic(auto)]
+
 pub mod checks;
 pub mod reader;
 

@@ -1,4 +1,6 @@
 //! The filter interface: what a filter means, and what every kind of filter keeps.
+#![tactic(auto)]
+
 ghost use Rattle.std.specs.Prelude.{◌≡◌, ℕ, true, length};
 ghost use Rattle.filters.specs.Kind.{Kind, Rules, Alone, judged};
 ghost use Rattle.passes.specs.Outputs.{written_to};

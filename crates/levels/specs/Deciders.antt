@@ -1,5 +1,5 @@
 -- What a decider means; the level over any decider, and the end.
-use Rattle.std.specs.Prelude.{ℕ, ◌+◌, min, Bool, true, false, cond, List, [], ◌∷◌, ◌++◌, map, length, Some, None, Ok, Err, Option, Result, ◌==◌}
+use Rattle.std.specs.Prelude.{ℕ, ◌+◌, min, Bool, cond, List, [], ◌∷◌, ◌++◌, map, length, Some, None, Ok, Err, Option, Result, ◌==◌}
 use Rattle.refusals.specs.declared.Reason.{Reason}
 use Rattle.refusals.specs.declared.Reason.TheVariants.{BadLength, BadSetting, NotTaken}
 use Rattle.refusals.specs.declared.Refusal.{Refusal}
@@ -7,7 +7,6 @@ use Rattle.refusals.specs.Numbers.{refused, plain}
 use Rattle.filters.specs.declared.Hashing.{Hashing}
 use Rattle.filters.specs.declared.Settings.{Settings}
 use Rattle.filters.specs.Kind.{Kind, allowed, judged}
-use Rattle.fields.specs.declared.Header.{Header}
 use Rattle.fields.specs.Fields.{field, header_at, body_at}
 use Rattle.fields.specs.Reading.{then}
 use Rattle.levels.specs.declared.Side.{Side}

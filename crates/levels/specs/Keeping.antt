@@ -1,5 +1,5 @@
 -- Levels and the end keep what every decider keeps.
-use Rattle.std.specs.Prelude.{◌≡◌, ℕ, zero, suc, ◌+◌, ◌%◌, ◌<◌, ◌≤◌, min, Bool, true, false, cond, not, ◌⊎◌, List, [], ◌∷◌, ◌++◌, map, length, Ok, Err, Result, ◌==◌, ◌≢◌, nat_eq, refl}
+use Rattle.std.specs.Prelude.{◌≡◌, ℕ, ◌+◌, ◌<◌, Bool, true, false, cond, List, [], ◌∷◌, ◌++◌, map, length, Ok, Err, Result, ◌==◌, ◌≢◌, nat_eq, refl}
 use Rattle.std.proofs.Common.{sym, ◌∙◌, inl, inr, eqb-true, eq-eqb, arith}
 use Rattle.std.proofs.Math.Path.{ap}
 use Rattle.std.proofs.Math.Logic.{⊎_elim}
@@ -15,10 +15,9 @@ use Rattle.filters.specs.Kind.{Kind, Rules, Alone, allowed}
 use Rattle.filters.specs.Judged.{fitting}
 use Rattle.fields.specs.Fields.{field}
 use Rattle.fields.specs.Reading.{then}
-use Rattle.levels.specs.declared.Side.{Side}
 use Rattle.levels.specs.declared.Side.TheVariants.{For, Against}
 use Rattle.levels.specs.Rows.{Row, In, Distinct, LawfulRows}
-use Rattle.levels.specs.Deciders.{Answer, Decides, Over, next, fill, turn, remark, begun, placed, at_size, deeper, tag_of, table_of, table_at, level_decides, end_decides, turned, other}
+use Rattle.levels.specs.Deciders.{Answer, Decides, Over, next, fill, turn, remark, begun, placed, at_size, deeper, tag_of, table_of, table_at, level_decides, end_decides, turned}
 use Rattle.levels.specs.Laws.{Right, first_no, Restores, Fits, AllFit, Keeps}
 use Rattle.fields.proofs.Readback.{length_field}
 use Rattle.levels.specs.Fields.{table_read}

@@ -1,5 +1,5 @@
 -- What a decider is built from: written forms, each with a mark.
-use Rattle.std.specs.Prelude.{◌≡◌, ℕ, ◌⊎◌, List, [], ◌∷◌, map}
+use Rattle.std.specs.Prelude.{◌≡◌, ℕ, ◌⊎◌, List, [], ◌∷◌}
 use Rattle.passes.specs.Lawful.{Lawful}
 use Rattle.levels.specs.declared.Side.{Side}
 use Rattle.levels.specs.declared.Side.TheVariants.{For, Against}

@@ -1,4 +1,6 @@
 //! Levels of filters over any decider, and the end below them.
+#![tactic(auto)]
+
 mod building;
 pub mod decider;
 pub mod end;

@@ -1,4 +1,6 @@
 //! The makes of levels that every reader knows, and the reader that knows them.
+#![tactic(auto)]
+
 ghost use Rattle.std.specs.Prelude.{◌≡◌, is_ok, Ok, Err, Decides, MatchResult};
 ghost use Rattle.publications.specs.Reading.{reads};
 ghost use Rattle.publications.specs.Layout.{Holds, Written, LayoutLaw};

@@ -1,12 +1,12 @@
 -- One turn of the hash's loop, its last bytes, and the law of whole groups.
 use Prim.Native.Nat.{ℕ, ◌-◌, ◌≤◌}
 use mathlib.Core.Path.{◌≡◌, refl}
-use mathlib.Core.List.{List, [], ◌∷◌, ◌++◌}
+use mathlib.Core.List.{List, [], ◌∷◌}
 use lib.ListN.{length, take, drop, get_or, length-drop}
 use lib.Seq.{take_all}
 use lib.Bits.{bit_xor}
 use native.Mathlib.Omega.{arith}
-use Rattle.murmur.specs.Hash.{absorbed, folded, low_first, mixed, Group, spelled, taken_in, ByGroups}
+use Rattle.murmur.specs.Hash.{absorbed, folded, low_first, mixed, ByGroups}
 
 pub absorbed_more : (h : ℕ) (xs : List ℕ) → 4 ≤ length xs → absorbed h xs ≡ absorbed (folded h (low_first (get_or xs 0 0) (get_or xs 1 0) (get_or xs 2 0) (get_or xs 3 0))) (drop 4 xs)
 unfolding absorbed

@@ -1,4 +1,6 @@
 //! MurmurHash3 x86 32-bit.
+#![tactic(auto)]
+
 ghost use Rattle.std.specs.Prelude.{◌≡◌, true};
 ghost use Rattle.murmur.specs.Hash.{murmur, mixed, folded, absorbed, finished, ByGroups};
 

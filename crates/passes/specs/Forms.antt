@@ -1,5 +1,5 @@
 -- The written form of each kind of identifier.
-use Rattle.std.specs.Prelude.{ℕ, ◌+◌, ◌%◌, min, max, List, [], ◌∷◌, ◌++◌, length, take}
+use Rattle.std.specs.Prelude.{ℕ, ◌+◌, ◌%◌, min, max, List, ◌∷◌, ◌++◌, length, take}
 use Rattle.passes.specs.declared.form.Form.{Form}
 use Rattle.passes.specs.declared.tag.Tag.{Tag}
 use Rattle.passes.specs.declared.chip.ChipPass.{ChipPass}

@@ -1,9 +1,8 @@
 -- "For" holds exactly at an even source.
-use Rattle.std.proofs.Common.{◌≡◌, ℕ, ◌+◌, ◌%◌, ◌<◌, ◌≤◌, min, Bool, true, false, cond, List, sym, refl, arith}
+use Rattle.std.proofs.Common.{◌≡◌, ℕ, ◌+◌, ◌%◌, ◌<◌, ◌≤◌, Bool, true, false, cond, List, sym, refl, arith}
 use Rattle.filters.specs.Kind.{Kind}
-use Rattle.levels.specs.declared.Side.{Side}
 use Rattle.levels.specs.declared.Side.TheVariants.{For, Against}
-use Rattle.levels.specs.Deciders.{Answer, Decides, Over, next, turned, level_decides, end_decides}
+use Rattle.levels.specs.Deciders.{Answer, Decides, Over, turned, level_decides, end_decides}
 use Rattle.piles.specs.Piles.{EvenFor}
 
 -- the same of one answer

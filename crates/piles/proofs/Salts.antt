@@ -1,12 +1,12 @@
 -- One salt tried after the other.
-use Rattle.std.proofs.Common.{◌≡◌, ℕ, zero, suc, ◌+◌, ◌-◌, ◌%◌, ◌<◌, ◌≤◌, List, Ok, Err, Result, sym, refl, ap, ◌∙◌, ⊎_elim, arith}
-use Rattle.std.proofs.lemmas.Bool.{cases_eq, cases_lt}
+use Rattle.std.proofs.Common.{◌≡◌, ℕ, zero, suc, ◌+◌, ◌-◌, ◌<◌, ◌≤◌, List, Ok, Err, Result, sym, refl, ap, ◌∙◌, ⊎_elim, arith}
+use Rattle.std.proofs.lemmas.Bool.{cases_lt}
 use Rattle.refusals.specs.declared.Refusal.{Refusal}
 use Rattle.filters.specs.declared.Hashing.{Hashing}
 use Rattle.levels.specs.Rows.{Row}
 use Rattle.levels.specs.Deciders.{Decides}
 use Rattle.fields.proofs.Steps.{never}
-use Rattle.piles.specs.Tries.{at_salt, next_salt, tried, or_later, retried, salt_at, Succeeds, Fails, Outcome}
+use Rattle.piles.specs.Tries.{at_salt, next_salt, tried, or_later, retried, salt_at, Outcome}
 
 module _ {S : Type 0} (d : Decides S) (h : Hashing) (sizes : List ℕ) (rs : List Row) where
   pub retried_ok : (n salt : ℕ) (s : S) → d.build (at_salt h salt) sizes rs ≡ Ok s → retried d h sizes rs n salt ≡ Ok (salt, s)

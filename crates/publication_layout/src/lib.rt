@@ -1,4 +1,6 @@
 //! Reading the bytes of a publication: a reader that accepts exactly the layout.
+#![tactic(auto)]
+
 pub mod coverage;
 mod heads;
 pub mod reader;

@@ -1,2 +1,4 @@
 //! Writing the bytes of a publication.
+#![tactic(auto)]
+
 pub mod writer;

@@ -1,12 +1,12 @@
 -- What is written of levels that were built.
-use Rattle.std.proofs.Common.{◌≡◌, ℕ, ◌+◌, ◌*◌, ◌≤◌, List, [], ◌∷◌, ◌++◌, length, Ok, sym, refl, ap, ◌∙◌, subst, arith}
+use Rattle.std.proofs.Common.{◌≡◌, ℕ, ◌+◌, ◌*◌, ◌≤◌, List, [], ◌∷◌, ◌++◌, length, Ok, sym, ap, ◌∙◌, subst, arith}
 use Rattle.std.proofs.lemmas.List.{length-append}
 use Rattle.filters.specs.declared.Hashing.{Hashing}
 use Rattle.fields.specs.Fields.{field}
 use Rattle.fields.proofs.Readback.{length_field}
 use Rattle.levels.specs.Rows.{Row, LawfulRows}
 use Rattle.levels.specs.Deciders.{Table, Decides, next, tag_of, table_fields}
-use Rattle.levels.specs.Laws.{Keeps, Fits, AllFit}
+use Rattle.levels.specs.Laws.{Keeps, AllFit}
 use Rattle.publications.specs.declared.CoverageRow.{CoverageRow}
 use Rattle.publications.specs.declared.PublicationHead.{PublicationHead}
 use Rattle.publications.specs.Publications.{published}

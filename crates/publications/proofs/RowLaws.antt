@@ -1,11 +1,11 @@
 -- Coverage rows that were written are read back, and those that were read stand as they are written.
-use Rattle.std.proofs.Common.{◌≡◌, ℕ, zero, suc, ◌+◌, ◌-◌, ◌*◌, ◌/◌, ◌%◌, ◌^◌, ◌<◌, ◌≤◌, Bool, true, false, cond, ◌&&◌, ◌||◌, eqb, leb, ◌⊎◌, List, [], ◌∷◌, ◌++◌, length, get_or, drop, Some, None, Ok, Err, Option, Result, sym, refl, ap, ◌∙◌, subst, inl, inr, ⊎_elim, add-zero, add-one, arith}
-use Rattle.std.proofs.lemmas.List.{append-nil, length-append, get_or-append-add, drop_more, drop_all}
+use Rattle.std.proofs.Common.{◌≡◌, ℕ, zero, suc, ◌+◌, ◌*◌, ◌/◌, ◌%◌, ◌<◌, ◌≤◌, Bool, true, false, ◌||◌, eqb, leb, ◌⊎◌, List, [], ◌∷◌, ◌++◌, length, get_or, drop, Some, None, Ok, Err, Option, Result, sym, refl, ap, ◌∙◌, subst, inl, inr, ⊎_elim, add-zero, arith}
+use Rattle.std.proofs.lemmas.List.{length-append, get_or-append-add, drop_more, drop_all}
 use Rattle.std.proofs.lemmas.Bool.{cases_Bool, cond-true, cond-false, both_ways, eq-eqb, eqb-true, le-leb, leb-true, and_from, and_parts, or_from, cases_lt}
 use Rattle.refusals.specs.declared.Reason.{Reason}
 use Rattle.refusals.specs.declared.Reason.TheVariants.{BadValue, NotAscending}
 use Rattle.passes.specs.Bytes.{bytes, be2}
-use Rattle.passes.specs.ByteLaws.{bytes_at, bytes_append}
+use Rattle.passes.specs.ByteLaws.{bytes_append}
 use Rattle.fields.specs.Reading.{then, two}
 use Rattle.fields.proofs.Numbers.{be2_two, two_small, two_bytes, be2_bytes}
 use Rattle.fields.proofs.Steps.{never}

@@ -1,6 +1,6 @@
 -- Reading a publication, step by step.
-use Rattle.std.proofs.Common.{◌≡◌, ℕ, ◌+◌, ◌≤◌, Bool, true, false, cond, eqb, List, length, is_some, Some, None, Ok, Err, Option, Result, sym, refl, ap, ◌∙◌, ⊎_elim, arith, MatchResult}
-use Rattle.std.proofs.lemmas.Bool.{cases_Bool, cond-true, cond-false}
+use Rattle.std.proofs.Common.{◌≡◌, ℕ, ◌+◌, true, false, eqb, List, length, is_some, Ok, Err, Result, sym, refl, ap, ◌∙◌, ⊎_elim, arith, MatchResult}
+use Rattle.std.proofs.lemmas.Bool.{cases_Bool}
 use Rattle.refusals.specs.declared.Refusal.{Refusal}
 use Rattle.filters.specs.declared.Hashing.{Hashing}
 use Rattle.fields.specs.Reading.{then, check_at}
@@ -8,7 +8,6 @@ use Rattle.fields.proofs.Steps.{never}
 use Rattle.levels.specs.Deciders.{Table, Decides, table_in, tables_at, table_fields}
 use Rattle.levels.specs.Laws.{Keeps}
 use Rattle.publications.specs.declared.PublicationHead.{PublicationHead}
-use Rattle.publications.specs.Publications.{Content}
 use Rattle.publications.specs.Reading.{Makes, head_at, rows_in, unsaid, coverage_judge, known_tables, known_makes, reads}
 
 -- what a decider's judgement says of its tables

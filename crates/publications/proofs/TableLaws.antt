@@ -1,5 +1,5 @@
 -- Tables that were written are read back, and those that were read stand as they are written.
-use Rattle.std.proofs.Common.{◌≡◌, ℕ, ◌+◌, ◌<◌, ◌≤◌, min, true, ltb, List, [], ◌∷◌, ◌++◌, length, take, Ok, Err, Result, sym, refl, ap, ◌∙◌, subst, arith}
+use Rattle.std.proofs.Common.{◌≡◌, ℕ, ◌+◌, ◌≤◌, true, List, [], ◌∷◌, ◌++◌, length, take, Ok, Result, sym, refl, ap, ◌∙◌, subst, arith}
 use Rattle.std.proofs.lemmas.List.{append_assoc, append-nil, length-append}
 use Rattle.std.proofs.lemmas.Bool.{lt-ltb, and_from}
 use Rattle.refusals.specs.declared.Refusal.{Refusal}
@@ -7,13 +7,12 @@ use Rattle.passes.specs.Bytes.{bytes}
 use Rattle.passes.specs.ByteLaws.{bytes_append}
 use Rattle.fields.specs.Fields.{field}
 use Rattle.fields.specs.Reading.{then}
-use Rattle.fields.proofs.Steps.{never}
 use Rattle.fields.proofs.Readback.{length_field, field_bytes}
 use Rattle.fields.proofs.Stands.{then_ok}
 use Rattle.levels.specs.Deciders.{Table, next, tag_of, table_in, tables_at, table_fields}
-use Rattle.levels.specs.Laws.{Fits, AllFit}
+use Rattle.levels.specs.Laws.{AllFit}
 use Rattle.levels.specs.Fields.{table_back, table_stands}
-use Rattle.publications.specs.Layout.{Accepted, AcceptedTables}
+use Rattle.publications.specs.Layout.{AcceptedTables}
 
 -- the tables behind one
 unfoldable with_table : List Table → ℕ → ℕ → List ℕ → ℕ → List ℕ → Result (List (List ℕ)) Refusal

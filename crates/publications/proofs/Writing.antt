@@ -1,5 +1,5 @@
 -- The fields of a publication written one behind the other.
-use Rattle.std.proofs.Common.{◌≡◌, ℕ, ◌+◌, ◌-◌, ◌*◌, ◌/◌, ◌%◌, ◌<◌, ◌≤◌, Bool, true, false, leb, List, [], ◌∷◌, ◌++◌, length, take, drop, Some, None, Option, sym, refl, ap, ◌∙◌, subst, ⊎_elim, arith}
+use Rattle.std.proofs.Common.{◌≡◌, ℕ, ◌+◌, ◌-◌, ◌*◌, ◌/◌, ◌%◌, ◌<◌, ◌≤◌, true, false, leb, List, [], ◌∷◌, ◌++◌, length, take, drop, Some, None, Option, sym, refl, ap, ◌∙◌, subst, ⊎_elim, arith}
 use lib.Bits.{bit_and}
 use borrow.Rule.Slice.PartMut.{put_mid}
 use Rattle.std.proofs.lemmas.Nat.{and_mask}
@@ -7,7 +7,6 @@ use Rattle.std.proofs.lemmas.List.{append_assoc, length-append, length-drop}
 use Rattle.std.proofs.lemmas.Bool.{cases_Bool, cases_lt, cond-false, le-leb, lt-leb, leb-true, leb-false}
 use Rattle.passes.specs.Outputs.{written_to}
 use Rattle.passes.proofs.Outputs.{Wrote, wrote, wrote_to, wrote_none, behind, chain}
-use Rattle.fields.specs.Fields.{field}
 use Rattle.fields.specs.Reading.{check_field, checked}
 use Rattle.fields.specs.Sealing.{sealed}
 use Rattle.fields.proofs.Readback.{length_field, check_length}

@@ -1,5 +1,5 @@
 -- What a publication holds, and its bytes.
-use Rattle.std.specs.Prelude.{ℕ, List, [], ◌∷◌, ◌++◌}
+use Rattle.std.specs.Prelude.{ℕ, List, ◌∷◌, ◌++◌}
 use Rattle.passes.specs.Bytes.{be2}
 use Rattle.passes.specs.Outputs.{joined}
 use Rattle.fields.specs.Fields.{field}

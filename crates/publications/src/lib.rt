@@ -1,4 +1,5 @@
 //! What a publication holds, its bytes, and the laws of their layout.
+#![tactic(auto)]
 
 /// The kind of the passes that a coverage row is of.
 #[derive(Clone, Copy)]

@@ -1,4 +1,6 @@
 //! Why a call refuses: the reason with its number, a tag and a place.
+#![tactic(auto)]
+
 ghost use Rattle.std.specs.Prelude.{◌≡◌};
 ghost use Rattle.refusals.specs.Numbers.{number_of, plain, refused};
 

@@ -1,4 +1,6 @@
 //! Runs the stored dialogue, which has every command, with its errors and refusals.
+#![tactic(auto)]
+
 use console::Console;
 use std::io;
 

@@ -1,4 +1,6 @@
 //! Runs the stored dialogue that fills cuckoo tables until a put is not taken.
+#![tactic(auto)]
+
 use console::Console;
 use std::io;
 

@@ -1,4 +1,6 @@
 //! Runs the stored dialogue on one filter of each kind.
+#![tactic(auto)]
+
 use console::Console;
 use std::io;
 

@@ -1,4 +1,6 @@
 //! Runs the stored dialogue on a register built into levels of both makes.
+#![tactic(auto)]
+
 use console::Console;
 use std::io;
 

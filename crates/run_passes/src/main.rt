@@ -1,4 +1,6 @@
 //! Runs the stored dialogue on hashes, written forms and the chip pass in hand.
+#![tactic(auto)]
+
 use console::Console;
 use std::io;
 

@@ -1,4 +1,6 @@
 //! Reading the bytes of a day sheet: a reader that accepts exactly the layout.
+#![tactic(auto)]
+
 pub mod judging;
 mod parts;
 pub mod reader;

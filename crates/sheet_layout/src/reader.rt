@@ -12,17 +12,20 @@ use sheets::{SheetField, Stage};
 /// Reads a sheet field by field: the head, the words, and the end behind the check.
 #[derive(Drop)]
 pub struct SheetReader<'a> {
+    input: &'a [u8],
     reader: Reader<'a>,
     last: &'a [u8],
     stage: Stage,
+    ghost same: { input.now ≡ reader.input.now },
 }
 
 impl<'a> SheetReader<'a> {
     /// A reader at the first byte of an input, where the head is due.
     pub fn new(input: &'a [u8]) -> SheetReader<'a>
-        ensures { (result.reader.input.now ≡ input.now) × (result.reader.at ≡ 0) × (result.last.now ≡ []) × (result.stage ≡ AtHead) }
+        ensures { (result.input.now ≡ input.now) × (result.reader.at ≡ 0) × (result.last.now ≡ []) × (result.stage ≡ AtHead) }
     {
         SheetReader {
+            input,
             reader: Reader::new(input),
             last: &input[0..0],
             stage: Stage::Head,
@@ -33,9 +36,9 @@ impl<'a> SheetReader<'a> {
     fn head(&mut self) -> Result<SheetField<'a>, Refusal>
         requires { self.old.stage ≡ AtHead }
         ensures step { MatchResult result
-            (λ f. next_at self.old.reader.input.now self.old.stage self.old.last.now self.old.reader.at ≡ Ok (content_of f, standing self.new.stage self.new.last.now self.new.reader.at))
-            (λ e. next_at self.old.reader.input.now self.old.stage self.old.last.now self.old.reader.at ≡ Err e) }
-        ensures input { self.new.reader.input.now ≡ self.old.reader.input.now }
+            (λ f. next_at self.old.input.now self.old.stage self.old.last.now self.old.reader.at ≡ Ok (content_of f, standing self.new.stage self.new.last.now self.new.reader.at))
+            (λ e. next_at self.old.input.now self.old.stage self.old.last.now self.old.reader.at ≡ Err e) }
+        ensures input { self.new.input.now ≡ self.old.input.now }
     {
         let head = read_head(&mut self.reader)?;
         self.stage = Stage::Words(256);
@@ -44,11 +47,11 @@ impl<'a> SheetReader<'a> {
 
     /// A word, and then one fewer is due.
     fn word(&mut self, room: u16) -> Result<SheetField<'a>, Refusal>
-        requires { (self.old.stage ≡ AtWords room) × (check_due room self.old.reader.input.now self.old.reader.at ≡ false) }
+        requires { (self.old.stage ≡ AtWords room) × (check_due room self.old.input.now self.old.reader.at ≡ false) }
         ensures step { MatchResult result
-            (λ f. next_at self.old.reader.input.now self.old.stage self.old.last.now self.old.reader.at ≡ Ok (content_of f, standing self.new.stage self.new.last.now self.new.reader.at))
-            (λ e. next_at self.old.reader.input.now self.old.stage self.old.last.now self.old.reader.at ≡ Err e) }
-        ensures input { self.new.reader.input.now ≡ self.old.reader.input.now }
+            (λ f. next_at self.old.input.now self.old.stage self.old.last.now self.old.reader.at ≡ Ok (content_of f, standing self.new.stage self.new.last.now self.new.reader.at))
+            (λ e. next_at self.old.input.now self.old.stage self.old.last.now self.old.reader.at ≡ Err e) }
+        ensures input { self.new.input.now ≡ self.old.input.now }
     {
         let word = read_word(self.last, &mut self.reader)?;
         self.last = word.form;
@@ -58,11 +61,11 @@ impl<'a> SheetReader<'a> {
 
     /// The check, and then nothing is due.
     fn check(&mut self, room: u16) -> Result<SheetField<'a>, Refusal>
-        requires { (self.old.stage ≡ AtWords room) × (check_due room self.old.reader.input.now self.old.reader.at ≡ true) }
+        requires { (self.old.stage ≡ AtWords room) × (check_due room self.old.input.now self.old.reader.at ≡ true) }
         ensures step { MatchResult result
-            (λ f. next_at self.old.reader.input.now self.old.stage self.old.last.now self.old.reader.at ≡ Ok (content_of f, standing self.new.stage self.new.last.now self.new.reader.at))
-            (λ e. next_at self.old.reader.input.now self.old.stage self.old.last.now self.old.reader.at ≡ Err e) }
-        ensures input { self.new.reader.input.now ≡ self.old.reader.input.now }
+            (λ f. next_at self.old.input.now self.old.stage self.old.last.now self.old.reader.at ≡ Ok (content_of f, standing self.new.stage self.new.last.now self.new.reader.at))
+            (λ e. next_at self.old.input.now self.old.stage self.old.last.now self.old.reader.at ≡ Err e) }
+        ensures input { self.new.input.now ≡ self.old.input.now }
     {
         self.reader.check()?;
         self.stage = Stage::Done;
@@ -73,9 +76,9 @@ impl<'a> SheetReader<'a> {
     /// what it gives then is not said.
     pub fn next(&mut self) -> Result<SheetField<'a>, Refusal>
         ensures step { MatchResult result
-            (λ f. next_at self.old.reader.input.now self.old.stage self.old.last.now self.old.reader.at ≡ Ok (content_of f, standing self.new.stage self.new.last.now self.new.reader.at))
-            (λ e. next_at self.old.reader.input.now self.old.stage self.old.last.now self.old.reader.at ≡ Err e) }
-        ensures input { self.new.reader.input.now ≡ self.old.reader.input.now }
+            (λ f. next_at self.old.input.now self.old.stage self.old.last.now self.old.reader.at ≡ Ok (content_of f, standing self.new.stage self.new.last.now self.new.reader.at))
+            (λ e. next_at self.old.input.now self.old.stage self.old.last.now self.old.reader.at ≡ Err e) }
+        ensures input { self.new.input.now ≡ self.old.input.now }
     {
         match (self.stage, self.reader.peek()) {
             (Stage::Head, _) => self.head(),

@@ -1,2 +1,4 @@
 //! Writing the bytes of a day sheet.
+#![tactic(auto)]
+
 pub mod writer;

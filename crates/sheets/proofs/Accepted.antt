@@ -1,22 +1,16 @@
 -- Bytes that are accepted are the writing of what was read.
-use Rattle.std.proofs.Common.{◌≡◌, ℕ, zero, suc, ◌+◌, ◌-◌, ◌/◌, ◌%◌, ◌^◌, ◌<◌, ◌≤◌, true, false, cond, ◌&&◌, eqb, ltb, leb, List, [], ◌∷◌, ◌++◌, length, get_or, take, drop, Ok, Err, Result, sym, refl, ap, ◌∙◌, subst, ⊎_elim, arith}
-use Rattle.std.proofs.lemmas.List.{append_assoc, append-nil, length-append, length-take-le, take_at, take_all, take-append-drop, drop_more}
-use Rattle.std.proofs.lemmas.Bool.{cases_Bool, cond-true, cond-false, and_parts, and_from, or_cases, leb-true, ltb-true, ltb-false, eqb-true}
-use Rattle.refusals.specs.declared.Reason.{Reason}
-use Rattle.refusals.specs.declared.Reason.TheVariants.{BadLength, BadValue, WrongCheck, BytesLeft}
+use Rattle.std.proofs.Common.{◌≡◌, ℕ, zero, suc, ◌+◌, ◌^◌, ◌<◌, ◌≤◌, true, false, ◌&&◌, eqb, ltb, List, [], ◌∷◌, ◌++◌, length, get_or, take, drop, Ok, Result, sym, refl, ap, ◌∙◌, subst, ⊎_elim, arith}
+use Rattle.std.proofs.lemmas.List.{append_assoc, append-nil, drop_more}
+use Rattle.std.proofs.lemmas.Bool.{cases_Bool, cond-true, cond-false, and_parts, and_from, or_cases, ltb-true, eqb-true}
+use Rattle.refusals.specs.declared.Reason.TheVariants.{BadValue}
 use Rattle.refusals.specs.declared.Refusal.{Refusal}
-use Rattle.refusals.specs.Numbers.{refused}
-use Rattle.murmur.specs.Hash.{murmur}
 use Rattle.passes.specs.Bytes.{bytes}
-use Rattle.passes.specs.ByteLaws.{bytes_at, bytes_take, bytes_drop}
 use Rattle.passes.specs.Lawful.{lawful}
 use Rattle.passes.specs.Order.{before}
-use Rattle.fields.specs.declared.Header.{Header}
-use Rattle.fields.specs.Fields.{field, tag_at, header_at, body_at}
-use Rattle.fields.specs.Reading.{check_field, checked, then, in_field, field_at, content_at, four, two, check_in, check_at}
-use Rattle.fields.proofs.Steps.{never, Headed, headed, Bodied, bodied}
-use Rattle.fields.proofs.Numbers.{four_small, two_small, check_body}
-use Rattle.fields.proofs.Readback.{length_field}
+use Rattle.fields.specs.Fields.{field, tag_at}
+use Rattle.fields.specs.Reading.{checked, then, four, two, check_at}
+use Rattle.fields.proofs.Steps.{never}
+use Rattle.fields.proofs.Numbers.{four_small, two_small}
 use Rattle.fields.proofs.Stands.{then_ok, content_stands, check_stands}
 use Rattle.sheets.specs.declared.SheetHead.{SheetHead}
 use Rattle.sheets.specs.Sheets.{Word, Sheet, side_byte, head_field, word_field, word_fields, writes}

@@ -3,11 +3,9 @@ use Rattle.std.proofs.Common.{◌≡◌, ℕ, ◌+◌, ◌*◌, ◌≤◌, true,
 use Rattle.std.proofs.lemmas.List.{length-append}
 use Rattle.std.proofs.lemmas.Bool.{and_parts}
 use Rattle.refusals.specs.declared.Refusal.{Refusal}
-use Rattle.murmur.specs.Hash.{murmur}
 use Rattle.passes.specs.Bytes.{bytes, be2}
 use Rattle.passes.specs.ByteLaws.{bytes_append}
 use Rattle.passes.specs.Lawful.{lawful}
-use Rattle.fields.specs.Fields.{field}
 use Rattle.fields.proofs.Readback.{field_bytes, check_bytes, check_length}
 use Rattle.fields.specs.Reading.{be4, check_field, then}
 use Rattle.fields.proofs.Numbers.{be2_bytes, be4_bytes}

@@ -1,16 +1,15 @@
 -- A sheet that was written is read back.
-use Rattle.std.proofs.Common.{◌≡◌, ℕ, zero, suc, ◌+◌, ◌-◌, ◌*◌, ◌/◌, ◌%◌, ◌^◌, ◌<◌, ◌≤◌, true, false, ◌&&◌, eqb, ltb, leb, List, [], ◌∷◌, ◌++◌, length, get_or, take, drop, Some, Ok, Result, sym, refl, ap, ◌∙◌, ⊎_elim, add-zero, arith}
-use Rattle.std.proofs.lemmas.List.{append_assoc, append-nil, length-append, get_or-append-add, take_at, drop_at}
-use Rattle.std.proofs.lemmas.Bool.{le-ltb, lt-ltb, le-leb, eq-eqb, ne_eqb, and_from, and_right, and_parts, or_right, or_from, cond-true, cond-false, cases_lt}
+use Rattle.std.proofs.Common.{◌≡◌, ℕ, zero, suc, ◌+◌, ◌^◌, ◌<◌, ◌≤◌, true, false, ◌&&◌, eqb, ltb, List, [], ◌∷◌, ◌++◌, length, get_or, Some, Ok, Result, sym, refl, ap, ◌∙◌, ⊎_elim, arith}
+use Rattle.std.proofs.lemmas.List.{append_assoc, append-nil, length-append}
+use Rattle.std.proofs.lemmas.Bool.{lt-ltb, ne_eqb, and_from, and_right, and_parts, or_right, or_from, cond-true, cases_lt}
 use Rattle.refusals.specs.declared.Refusal.{Refusal}
-use Rattle.murmur.specs.Hash.{murmur}
 use Rattle.passes.specs.Bytes.{be2}
 use Rattle.passes.specs.Lawful.{lawful}
 use Rattle.passes.specs.Order.{before}
-use Rattle.fields.specs.Fields.{field, tag_at, header_at, body_at}
-use Rattle.fields.specs.Reading.{be4, check_field, checked, then, field_at, four, two, check_at}
+use Rattle.fields.specs.Fields.{tag_at}
+use Rattle.fields.specs.Reading.{be4, check_field, checked, then, four, two, check_at}
 use Rattle.fields.proofs.Steps.{content_read}
-use Rattle.fields.proofs.Numbers.{murmur_small, four_bytes, two_bytes}
+use Rattle.fields.proofs.Numbers.{four_bytes, two_bytes}
 use Rattle.fields.proofs.Readback.{tag_back, field_back, check_back, check_tag}
 use Rattle.sheets.specs.declared.Side.{Side}
 use Rattle.sheets.specs.declared.Side.TheVariants.{Good, Blocked}

@@ -1,19 +1,12 @@
 -- The word in a body.
-use Rattle.std.proofs.Common.{◌≡◌, ℕ, ◌+◌, ◌-◌, ◌*◌, ◌<◌, ◌≤◌, true, false, ◌&&◌, eqb, ltb, leb, ◌⊎◌, List, length, get_or, take, drop, is_ok, Ok, Err, Result, sym, ap, ◌∙◌, ⊎_elim, arith, length-drop, length-take, MatchResult}
+use Rattle.std.proofs.Common.{◌≡◌, ℕ, ◌+◌, ◌-◌, ◌≤◌, true, false, ◌&&◌, leb, List, length, get_or, take, drop, Ok, Err, sym, ap, ◌∙◌, ⊎_elim, arith, length-drop}
 use Rattle.std.proofs.lemmas.List.{take_rest}
-use Rattle.std.proofs.lemmas.Bool.{cases_Bool, cond-true, cond-false, ltb-false, ne_eqb, eq-eqb, lt-ltb, le-ltb, eqb-true, le-leb, lt-leb, and_from, and_left, and_right, leb-true, and_parts}
-use Rattle.refusals.specs.declared.Reason.{Reason}
-use Rattle.refusals.specs.declared.Reason.TheVariants.{CutShort, WrongTag, BadLength, BadValue, NotAscending, WrongCheck, BytesLeft}
-use Rattle.refusals.specs.declared.Refusal.{Refusal}
-use Rattle.refusals.specs.Numbers.{refused}
+use Rattle.std.proofs.lemmas.Bool.{cases_Bool, cond-true, cond-false, leb-true, and_parts}
+use Rattle.refusals.specs.declared.Reason.TheVariants.{BadValue, NotAscending}
 use Rattle.passes.specs.Lawful.{lawful}
 use Rattle.passes.specs.Order.{before}
-use Rattle.fields.specs.declared.Header.{Header}
-use Rattle.fields.specs.Fields.{header_at, body_at, stepped}
-use Rattle.fields.specs.Reading.{field_at, content_at, four, check_at}
 use Rattle.fields.proofs.Steps.{never}
 use Rattle.sheets.specs.Sheets.{Word}
-use Rattle.murmur.specs.Hash.{murmur}
 use Rattle.sheets.specs.Reading.{side_of, word_in}
 
 -- the word in a body, whose form is what is behind the side

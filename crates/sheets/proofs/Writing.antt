@@ -1,17 +1,14 @@
 -- Fields written one behind the other.
-use Rattle.std.proofs.Common.{◌≡◌, ℕ, ◌+◌, ◌-◌, ◌/◌, ◌%◌, ◌<◌, ◌≤◌, Bool, true, false, leb, List, [], ◌∷◌, ◌++◌, map, length, get_or, take, drop, Some, None, Option, sym, refl, ap, ◌∙◌, subst, ⊎_elim, arith}
+use Rattle.std.proofs.Common.{◌≡◌, ℕ, ◌+◌, ◌-◌, ◌/◌, ◌%◌, ◌<◌, ◌≤◌, Bool, true, false, leb, List, [], ◌∷◌, ◌++◌, map, length, get_or, take, drop, Some, Option, sym, refl, ap, ◌∙◌, subst, ⊎_elim, arith}
 use lib.Bits.{bit_and}
 use borrow.Rule.Slice.PartMut.{put_mid}
 use Rattle.std.proofs.lemmas.Nat.{and_mask}
-use Rattle.std.proofs.lemmas.List.{append_assoc, append-nil, length-append, length-drop, drop_at, drop_all, drop-drop, drop_more, take_at, take_rest, take_more, take-append-drop, map-append}
-use Rattle.std.proofs.lemmas.Bool.{cases_Bool, cond-true, cond-false, le-leb, lt-leb, leb-true, leb-false}
-use Rattle.fields.specs.Fields.{field}
+use Rattle.std.proofs.lemmas.List.{append_assoc, append-nil, length-append, length-drop, drop-drop, drop_more, take_more, take-append-drop, map-append}
+use Rattle.std.proofs.lemmas.Bool.{cases_Bool, le-leb, lt-leb, leb-true, leb-false}
 use Rattle.fields.specs.Sealing.{sealed}
 use Rattle.fields.proofs.Sealed.{seal_wrote}
-use Rattle.murmur.specs.Hash.{murmur}
-use Rattle.fields.specs.Reading.{be4, check_field}
 use Rattle.passes.specs.Outputs.{written_to}
-use Rattle.passes.proofs.Outputs.{Wrote, wrote, wrote_to, behind, chain}
+use Rattle.passes.proofs.Outputs.{Wrote, wrote, behind, chain}
 use Rattle.sheets.specs.declared.SheetHead.{SheetHead}
 use Rattle.sheets.specs.declared.SheetWord.{SheetWord}
 use Rattle.sheets.specs.Sheets.{Word, side_byte, head_field, word_field, word_fields, writes}

@@ -1,4 +1,5 @@
 //! What a day sheet holds, its bytes, and the laws of their layout.
+#![tactic(auto)]
 
 /// What a word says of a pass.
 #[derive(Clone, Copy)]

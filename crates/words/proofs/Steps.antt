@@ -1,5 +1,5 @@
 -- One byte more of each reading. Assumes nothing.
-use Rattle.std.proofs.Common.{◌≡◌, ℕ, ◌+◌, ◌-◌, ◌*◌, ◌^◌, ◌<◌, ◌≤◌, Bool, true, false, cond, ◌&&◌, ◌||◌, List, [], ◌∷◌, ◌++◌, length, get_or, take, drop, Some, None, IsUtf8, IsAscii, Option, sym, refl, ap, ◌∙◌, append_assoc, mul_comm, arith, length-drop, pow-add}
+use Rattle.std.proofs.Common.{◌≡◌, ℕ, ◌+◌, ◌-◌, ◌*◌, ◌^◌, ◌<◌, ◌≤◌, Bool, true, false, cond, ◌&&◌, List, [], ◌∷◌, ◌++◌, length, get_or, take, drop, Some, None, IsUtf8, IsAscii, Option, sym, refl, ap, ◌∙◌, append_assoc, mul_comm, arith, length-drop, pow-add}
 use Rattle.std.proofs.lemmas.List.{at_drop_more, at_drop_all, get_or-drop, take_more, take_rest}
 use Rattle.std.proofs.lemmas.Str.Ascii.{IsAscii-nil, IsAscii-cons}
 use Rattle.std.proofs.lemmas.Bool.{and_parts}

@@ -1,4 +1,4 @@
-use Rattle.std.proofs.Common.{◌≡◌, ℕ, ◌*◌, ◌/◌, ◌%◌, ◌^◌, length, get_or, sym, ap, ◌∙◌}
+use Rattle.std.proofs.Common.{ℕ, ◌*◌, ◌/◌, ◌%◌, ◌^◌, length, get_or, sym, ap, ◌∙◌}
 use lib.Bits.{bit_and}
 use Rattle.bloom.specs.Bits.{position}
 use Rattle.bloom.proofs.Steps.{all_step, all_stop, bit_off}

@@ -1,4 +1,4 @@
-use Rattle.std.proofs.Common.{◌≡◌, ℕ, ◌*◌, ◌/◌, ◌%◌, ◌^◌, List, length, get_or, set, sym, ap, ◌∙◌}
+use Rattle.std.proofs.Common.{◌≡◌, ℕ, ◌*◌, ◌/◌, ◌%◌, ◌^◌, length, get_or, set, ap, ◌∙◌}
 use lib.Bits.{bit_or}
 use Rattle.bloom.specs.Bits.{position}
 use Rattle.bloom.proofs.Steps.{set_step}

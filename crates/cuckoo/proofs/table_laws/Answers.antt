@@ -1,8 +1,7 @@
-use Rattle.std.proofs.Common.{◌≡◌, refl}
+use Rattle.std.proofs.Common.{refl}
 use Rattle.std.proofs.lemmas.Bool.{cond-true}
 use Rattle.cuckoo.specs.Powers.{powers}
-use Rattle.cuckoo.specs.Cuckoo.{cuckoo_says, home, print, buckets}
-use Rattle.cuckoo.specs.Cells.{partner, stands, settled, kicked}
+use Rattle.cuckoo.specs.Cuckoo.{cuckoo_says}
 use Rattle.cuckoo.specs.Rules.{partner_twice, partner_low}
 use Rattle.cuckoo.proofs.table_laws.Goals as goal
 

@@ -1,4 +1,4 @@
-use Rattle.std.proofs.Common.{◌≡◌, ℕ, ◌<◌, ◌≤◌, List, length, get_or, Ok, refl, ap, ◌∙◌, arith, rules}
+use Rattle.std.proofs.Common.{ℕ, ◌<◌, ◌≤◌, List, length, get_or, Ok, ap, ◌∙◌, arith, rules}
 use Rattle.passes.specs.Bytes.{bytes}
 use Rattle.passes.specs.ByteLaws.{bytes_from}
 use Rattle.filters.specs.Kind.{judged}

@@ -6,7 +6,7 @@ no_word : (ws : List (Bor (List ℕ))) → length ws ≡ 0 → ignored (map (λ 
 no_word [] e = refl
 no_word (w ∷ ws) e = absurd (omega arith)
 
-pub returns-in-default : goal.returns-in-default
-returns-in-default c =
+pub returns-in_default : goal.returns-in_default
+returns-in_default c =
     let none : length c.args.words.now ≡ 0 = search rules in
     sym (ap not (no_word c.args.words.now none))

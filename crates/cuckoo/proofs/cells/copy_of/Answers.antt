@@ -1,4 +1,4 @@
-use Rattle.std.proofs.Common.{◌≡◌, ℕ, ◌≤◌, List, length, replicate, refl, ap, ◌∙◌, arith}
+use Rattle.std.proofs.Common.{ℕ, ◌≤◌, List, length, replicate, ap, ◌∙◌, arith}
 use lib.ListN.{length-replicate}
 use Rattle.filters.specs.Fronts.{front_is, front_length}
 use Rattle.cuckoo.proofs.cells.copy_of.Goals as goal

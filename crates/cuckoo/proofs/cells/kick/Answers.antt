@@ -1,4 +1,4 @@
-use Rattle.std.proofs.Common.{◌≡◌, ℕ, ◌+◌, ◌-◌, ◌*◌, ◌%◌, ◌<◌, Bool, List, get_or, set, sym, refl, ap, ◌∙◌, add-zero, arith}
+use Rattle.std.proofs.Common.{ℕ, ◌+◌, ◌-◌, ◌*◌, ◌%◌, Bool, List, get_or, set, sym, refl, ap, ◌∙◌, add-zero, arith}
 use Rattle.cuckoo.specs.Cells.{partner, put_into, kicked}
 use Rattle.cuckoo.specs.Tried.{tried}
 use Rattle.cuckoo.proofs.Steps.{into_here, into_next, into_end, kick_end, kick_found, kick_on}

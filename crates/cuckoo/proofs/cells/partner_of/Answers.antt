@@ -1,4 +1,4 @@
-use Rattle.std.proofs.Common.{◌≡◌, ◌%◌, ◌^◌, ◌<◌, sym, refl, ap, ◌∙◌, arith}
+use Rattle.std.proofs.Common.{◌%◌, ◌^◌, ◌<◌, refl, arith}
 use Rattle.std.proofs.lemmas.Nat.{xor_lt, mod_below}
 use Rattle.cuckoo.specs.Cells.{spread}
 use Rattle.cuckoo.proofs.cells.partner_of.Goals as goal

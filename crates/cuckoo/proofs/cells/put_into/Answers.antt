@@ -1,4 +1,4 @@
-use Rattle.std.proofs.Common.{◌≡◌, ℕ, ◌+◌, ◌-◌, ◌<◌, List, sym, refl, ap, ◌∙◌, add-zero, arith, rules}
+use Rattle.std.proofs.Common.{ℕ, ◌+◌, ◌-◌, List, sym, refl, ap, ◌∙◌, add-zero, arith, rules}
 use Rattle.cuckoo.specs.Cells.{put_into}
 use Rattle.cuckoo.proofs.Steps.{into_here, into_next, into_end}
 use Rattle.cuckoo.proofs.cells.put_into.Goals as goal

@@ -1,4 +1,4 @@
-use Rattle.std.proofs.Common.{◌≡◌, true, is_ok, vec_items, ap, ◌∙◌}
+use Rattle.std.proofs.Common.{vec_items}
 use Rattle.desk.proofs.Added.{field_added}
 use Rattle.desk.proofs.bytes.add_field.Goals as goal
 

@@ -1,4 +1,4 @@
-use Rattle.std.proofs.Common.{ℕ, List, ◌++◌, vec_items, ap, ◌∙◌, rules}
+use Rattle.std.proofs.Common.{ℕ, List, ◌++◌, vec_items, ap, ◌∙◌}
 use Rattle.desk.specs.Drafts.{span_words}
 use Rattle.desk.proofs.Entered.{words_more}
 use Rattle.desk.proofs.draft.span_words.Goals as goal

@@ -1,4 +1,4 @@
-use Rattle.std.proofs.Common.{◌≡◌, get_or, set, ap, ◌∙◌}
+use Rattle.std.proofs.Common.{get_or, set, ap, ◌∙◌}
 use Rattle.levels.specs.declared.Entry.{Entry}
 use Rattle.levels.specs.declared.Side.{Side}
 use Rattle.levels.specs.declared.Side.TheVariants.{For}

@@ -1,5 +1,5 @@
-use Rattle.std.proofs.Common.{◌≡◌, ◌+◌, List, get_or, drop, sym, ap, ◌∙◌}
-use Rattle.levels.specs.Rows.{Row, rows}
+use Rattle.std.proofs.Common.{◌+◌, get_or, drop, sym, ap, ◌∙◌}
+use Rattle.levels.specs.Rows.{rows}
 use Rattle.levels.specs.Deciders.{fill}
 use Rattle.levels.proofs.Fills.{row, rows_some, rows_at, rows_end, fill_put, fill_skip, fill_stop, fill_done}
 use Rattle.levels.proofs.building.fill.Goals as goal

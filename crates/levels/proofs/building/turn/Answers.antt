@@ -1,4 +1,4 @@
-use Rattle.std.proofs.Common.{◌≡◌, ℕ, ◌+◌, ◌<◌, ◌≤◌, ◌≢◌, List, length, get_or, set, sym, ap, ◌∙◌, arith, get_or-set_other, rules}
+use Rattle.std.proofs.Common.{◌≡◌, ℕ, ◌<◌, ◌≢◌, length, get_or, ap, ◌∙◌, arith, get_or-set_other}
 use Rattle.levels.specs.declared.Entry.{Entry}
 use Rattle.levels.specs.Deciders.{remark}
 use Rattle.levels.proofs.Fills.{rows_turned, marks_more, get_d_any, row}

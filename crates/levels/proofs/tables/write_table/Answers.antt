@@ -1,5 +1,4 @@
-use Rattle.std.proofs.Common.{◌≡◌, ℕ, ◌+◌, ◌-◌, ◌/◌, ◌%◌, ◌≤◌, List, [], ◌∷◌, ◌++◌, length, take, drop, Some, Option, sym, refl, ap, ◌∙◌, arith, length-drop}
-use Rattle.std.proofs.lemmas.Nat.{and_mask}
+use Rattle.std.proofs.Common.{ℕ, ◌+◌, ◌-◌, ◌/◌, ◌%◌, List, [], ◌∷◌, ◌++◌, length, take, drop, Some, Option, refl, ap, ◌∙◌, arith, length-drop}
 use Rattle.passes.proofs.Outputs.{Wrote, wrote_fits, wrote_to as writes, chain, behind}
 use Rattle.levels.proofs.Writing.{header_bytes}
 use borrow.Rule.Slice.PartMut.{put_mid}

@@ -1,7 +1,6 @@
-use Rattle.std.proofs.Common.{◌≡◌, ℕ, ◌+◌, ◌-◌, ◌%◌, ◌<◌, ◌≤◌, List, ◌++◌, length, get_or, drop, replicate, refl, ap, ◌∙◌, arith, rules}
+use Rattle.std.proofs.Common.{ℕ, ◌-◌, ◌<◌, List, length, get_or, refl, ap, ◌∙◌, rules}
 use Rattle.passes.specs.declared.chip.ChipPass.{ChipPass}
-use Rattle.passes.specs.Forms.{chip_form, stored_form}
-use Rattle.passes.specs.Bytes.{firsts}
+use Rattle.passes.specs.Forms.{stored_form}
 use Rattle.passes.proofs.Parts.{over_zeros, stored_plain}
 use Rattle.passes.proofs.chip.stored.Goals as goal
 

@@ -1,4 +1,4 @@
-use Rattle.std.proofs.Common.{◌≡◌, ℕ, ◌<◌, get_or, ◌∙◌, rules}
+use Rattle.std.proofs.Common.{ℕ, ◌<◌, get_or, ◌∙◌, rules}
 use Rattle.std.proofs.lemmas.Bool.Decides.{Decides-at}
 use Rattle.passes.specs.Lawful.{lawful}
 use Rattle.passes.specs.ByteLaws.{bytes_from}

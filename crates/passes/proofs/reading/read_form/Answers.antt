@@ -1,5 +1,5 @@
-use Rattle.std.proofs.Common.{◌≡◌, ℕ, ◌-◌, ◌<◌, ◌≤◌, length, get_or, take, drop, refl, ap, ◌∙◌, arith, rules}
-use Rattle.passes.specs.Lawful.{Lawful, lawful_length}
+use Rattle.std.proofs.Common.{ℕ, ◌-◌, ◌<◌, length, get_or, take, drop, refl, rules}
+use Rattle.passes.specs.Lawful.{lawful_length}
 use Rattle.passes.proofs.Shapes.{tag_back, chip_back, tag_length, chip_first}
 use Rattle.passes.proofs.reading.read_form.Goals as goal
 

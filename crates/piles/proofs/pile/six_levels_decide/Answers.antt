@@ -1,4 +1,4 @@
-use Rattle.std.proofs.Common.{◌<◌, refl, arith}
+use Rattle.std.proofs.Common.{refl, arith}
 use Rattle.levels.specs.Keeping.{level_keeps, end_keeps}
 use Rattle.piles.proofs.Even.{level_even, end_even}
 use Rattle.piles.proofs.pile.six_levels_decide.Goals as goal

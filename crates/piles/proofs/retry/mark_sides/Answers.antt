@@ -1,4 +1,4 @@
-use Rattle.std.proofs.Common.{◌≡◌, ℕ, ◌<◌, List, length, get_or, ap, ◌∙◌, arith}
+use Rattle.std.proofs.Common.{◌≡◌, ℕ, ◌<◌, length, get_or, ap, ◌∙◌, arith}
 use Rattle.levels.specs.declared.Entry.{Entry}
 use Rattle.levels.specs.Rows.{mark_of}
 use Rattle.levels.proofs.Fills.{marks_more, get_d_any}

@@ -1,6 +1,5 @@
-use Rattle.std.proofs.Common.{◌≡◌, Ok, Err, sym, ap, ◌∙◌}
+use Rattle.std.proofs.Common.{Err, sym, ap, ◌∙◌}
 use Rattle.std.proofs.lemmas.Result.{err_from_is_err_and}
-use Rattle.refusals.specs.Numbers.{refused}
 use Rattle.levels.proofs.Reading.{no_header, no_length, no_body, read_ok, read_err}
 use Rattle.publications.specs.Reading.{coverage_judge}
 use Rattle.publication_layout.proofs.coverage.read_coverage.Goals as goal

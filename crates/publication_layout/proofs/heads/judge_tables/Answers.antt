@@ -1,7 +1,7 @@
-use Rattle.std.proofs.Common.{◌≡◌, List, sym, ap, ◌∙◌, subst, eq-eqb}
+use Rattle.std.proofs.Common.{List, sym, subst, eq-eqb}
 use Rattle.filters.specs.declared.Hashing.{Hashing}
 use Rattle.levels.specs.Deciders.{Table}
-use Rattle.publications.proofs.Steps.{TablesRead, tables_judged, make_own, make_one, make_two}
+use Rattle.publications.proofs.Steps.{TablesRead, tables_judged, make_own}
 use Rattle.publication_layout.proofs.heads.judge_tables.Goals as goal
 
 pub returns-then-head-own : goal.returns-then-head-own

@@ -1,4 +1,3 @@
-use Rattle.std.proofs.Common.{◌≡◌, sym, ap, ◌∙◌}
 use Rattle.publications.proofs.Writing.{coverage_room, not_none, publication_wrote}
 use Rattle.publication_writer.proofs.writer.fill_publication.Goals as goal
 

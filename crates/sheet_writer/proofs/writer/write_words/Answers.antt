@@ -1,4 +1,4 @@
-use Rattle.std.proofs.Common.{◌-◌, ◌<◌, List, [], length, subst, arith}
+use Rattle.std.proofs.Common.{◌<◌, List, [], length, subst, arith}
 use Rattle.std.proofs.lemmas.List.{take_all}
 use Rattle.passes.proofs.Outputs.{Wrote, wrote_to}
 use Rattle.sheets.specs.declared.SheetWord.{SheetWord}

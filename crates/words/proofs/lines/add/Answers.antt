@@ -1,4 +1,4 @@
-use Rattle.std.proofs.Common.{◌≡◌, ◌++◌, map, vec_items, sym, ap, ◌∙◌, append-nil, rules}
+use Rattle.std.proofs.Common.{◌++◌, map, vec_items, sym, ap, ◌∙◌, rules}
 use mathlib.Core.List.{map-append}
 use Rattle.words.proofs.Steps.{ended_some}
 use Rattle.words.proofs.lines.add.Goals as goal

@@ -1,4 +1,4 @@
-use Rattle.std.proofs.Common.{◌≡◌, ◌≤◌, length, sym, ◌∙◌, arith}
+use Rattle.std.proofs.Common.{◌≤◌, length, sym, ◌∙◌, arith}
 use Rattle.words.proofs.Steps.{lettered_more, lettered_none, lettered_all}
 use Rattle.words.proofs.names.all_letters.Goals as goal
 

@@ -1,4 +1,4 @@
-use Rattle.std.proofs.Common.{◌≡◌, ℕ, true, cond, List, Some, None, Ok, Err, IsUtf8, Result, sym, refl, ap, ◌∙◌, arith, Bor, rules, MatchResult}
+use Rattle.std.proofs.Common.{◌≡◌, ℕ, true, cond, List, Some, None, Ok, Err, IsUtf8, Result, sym, ap, ◌∙◌, arith, Bor, rules, MatchResult}
 use Rattle.std.proofs.lemmas.Bool.Decides.{nat_tests}
 use Rattle.std.specs.Option.{option_map}
 use Rattle.std.specs.Result.{result_ok}

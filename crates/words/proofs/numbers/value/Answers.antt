@@ -1,4 +1,4 @@
-use Rattle.std.proofs.Common.{◌≡◌, ◌≤◌, length, sym, ◌∙◌, arith}
+use Rattle.std.proofs.Common.{◌≤◌, length, sym, ◌∙◌, arith}
 use Rattle.words.proofs.Steps.{reads_digit, reads_none, reads_all, ten_more}
 use Rattle.words.proofs.numbers.value.Goals as goal
 

@@ -1,4 +1,4 @@
-use Rattle.std.proofs.Common.{◌≡◌, ℕ, ◌≤◌, List, length, ap, ◌∙◌, arith}
+use Rattle.std.proofs.Common.{ℕ, ◌≤◌, List, length, ap, ◌∙◌, arith}
 use Rattle.bloom.specs.Rules.{ranges}
 use Rattle.filters.specs.Fronts.{front_is, front_length, front_bytes}
 use Rattle.bloom.proofs.Steps.{put_part, put_size, put_bytes}

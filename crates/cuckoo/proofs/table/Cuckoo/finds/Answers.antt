@@ -1,4 +1,4 @@
-use Rattle.std.proofs.Common.{◌≡◌, ℕ, ◌/◌, ◌≤◌, length, refl, ap, ◌∙◌, arith}
+use Rattle.std.proofs.Common.{arith}
 use Rattle.cuckoo.specs.Rules.{ranges}
 use Rattle.cuckoo.proofs.Places.{front_quarter, home_within}
 use Rattle.cuckoo.proofs.table.Cuckoo.finds.Goals as goal

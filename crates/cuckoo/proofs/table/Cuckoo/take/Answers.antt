@@ -1,7 +1,7 @@
-use Rattle.std.proofs.Common.{◌≡◌, ℕ, ◌/◌, ◌≤◌, List, length, take, refl, ap, ◌∙◌, arith}
+use Rattle.std.proofs.Common.{ℕ, ◌≤◌, List, length, take, ap, ◌∙◌, arith}
 use Rattle.cuckoo.specs.Rules.{ranges}
 use Rattle.filters.specs.Fronts.{front_is, front_length, front_bytes}
-use Rattle.cuckoo.specs.Cuckoo.{CuckooView, cuckoo_view, stored_pair}
+use Rattle.cuckoo.specs.Cuckoo.{cuckoo_view, stored_pair}
 use Rattle.cuckoo.proofs.Places.{front_quarter, home_within, put_by, put_fits, put_view}
 use Rattle.cuckoo.proofs.table.Cuckoo.take.Goals as goal
 

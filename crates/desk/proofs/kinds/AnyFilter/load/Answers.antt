@@ -1,4 +1,4 @@
-use Rattle.std.proofs.Common.{◌≡◌, sym, ap, ◌∙◌}
+use Rattle.std.proofs.Common.{sym, ap, ◌∙◌}
 use Rattle.bloom.specs.Bloom.{bloom_kind}
 use Rattle.cuckoo.specs.Cuckoo.{cuckoo_kind}
 use Rattle.exact.specs.Exact.{exact_kind}

@@ -1,4 +1,4 @@
-use Rattle.std.proofs.Common.{vec_items, sym, append-nil, rules}
+use Rattle.std.proofs.Common.{vec_items, sym, append-nil}
 use Rattle.desk.specs.Registers.{entries}
 use Rattle.desk.proofs.Entered.{entries_more}
 use Rattle.desk.proofs.register.Register.add_all.Goals as goal

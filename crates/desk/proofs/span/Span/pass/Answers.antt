@@ -1,4 +1,4 @@
-use Rattle.std.proofs.Common.{◌≡◌, ◌+◌, ◌*◌, sym, ap, ◌∙◌}
+use Rattle.std.proofs.Common.{◌+◌, ◌*◌, sym, ap, ◌∙◌}
 use Rattle.desk.specs.declared.pass.Pass.TheVariants.{Chip}
 use Rattle.desk.specs.declared.span.SpanKind.{SpanKind}
 use Rattle.desk.specs.Spans.{numbered, pass_of}

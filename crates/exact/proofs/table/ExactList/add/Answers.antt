@@ -39,11 +39,14 @@ invariant_of-self c =
     let r = roomy me.table n l me.filled.1 me.count k.shaped me.filled.2 c.requires.2 in
     let w = lawful_length c.requires.0 in
     let s = added_length x fs in
-    record { sized = (long ∙ me.sized.0, omega arith, me.sized.2); filled = (
-          ap keepable f ∙ keepable_from (added x fs) (added_keepable x fs c.requires.0 k c.requires.1 (omega (arith, me.filled.2, c.requires.2))),
-          ap pack f ∙ sym e,
-          omega (arith, me.filled.2, ap length f),
-        ) }
+    record {
+      sized = (long ∙ me.sized.0, omega arith, me.sized.2);
+      filled = (
+        ap keepable f ∙ keepable_from (added x fs) (added_keepable x fs c.requires.0 k c.requires.1 (omega (arith, me.filled.2, c.requires.2))),
+        ap pack f ∙ sym e,
+        omega (arith, me.filled.2, ap length f),
+      );
+    }
 
 pub returns : goal.returns
 returns c =

@@ -18,11 +18,14 @@ invariant_of-self c =
     let f = front_is body part me.table e in
     let fs = ap forms_of f in
     let l : length body ≤ length me.table = omega (arith, a.short, me.sized.0) in
-    record { sized = (front_length body part me.table e l ∙ me.sized.0, a.short, a.counted); filled = (
-          ap keepable fs ∙ keepable_from (forms_of body) (held_keepable body a.fine_rows),
-          ap pack fs ∙ (rows_held body a.fine_rows).packed ∙ sym f,
-          c.count_rows-self.ensures ∙ ap length (sym fs),
-        ) }
+    record {
+      sized = (front_length body part me.table e l ∙ me.sized.0, a.short, a.counted);
+      filled = (
+        ap keepable fs ∙ keepable_from (forms_of body) (held_keepable body a.fine_rows),
+        ap pack fs ∙ (rows_held body a.fine_rows).packed ∙ sym f,
+        c.count_rows-self.ensures ∙ ap length (sym fs),
+      );
+    }
 
 pub returns : goal.returns
 returns c =

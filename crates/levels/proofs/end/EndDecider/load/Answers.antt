@@ -1,4 +1,4 @@
-use Rattle.std.proofs.Common.{◌≡◌, ℕ, Ok, sym, ap, ◌∙◌, MatchResult}
+use Rattle.std.proofs.Common.{Ok, sym, ap, ◌∙◌}
 use Rattle.levels.specs.Deciders.{table_of}
 use Rattle.levels.proofs.Reading.{end_loads, load_done, read_judged}
 use Rattle.levels.proofs.end.EndDecider.load.Goals as goal

@@ -1,4 +1,4 @@
-use Rattle.std.proofs.Common.{◌≡◌, ℕ, ◌-◌, ◌≤◌, length, get_or, take, drop, sym, refl, ap, ◌∙◌, rules}
+use Rattle.std.proofs.Common.{◌-◌, ◌≤◌, length, get_or, take, drop, sym, ap, ◌∙◌, rules}
 use Rattle.std.proofs.lemmas.Result.{MatchResult-weaker}
 use Rattle.filters.specs.declared.Hashing.{Hashing}
 use Rattle.levels.specs.Rows.{rows}

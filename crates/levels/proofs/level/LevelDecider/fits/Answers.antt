@@ -1,4 +1,4 @@
-use Rattle.std.proofs.Common.{◌≡◌, ℕ, ◌-◌, ◌≤◌, leb, length, sym, ap, ◌∙◌, arith}
+use Rattle.std.proofs.Common.{ℕ, ◌-◌, leb, length, ap, ◌∙◌, arith}
 use Rattle.levels.specs.Deciders.{tag_of, next}
 use Rattle.levels.proofs.Writing.{fits_short, fits_rest}
 use Rattle.levels.proofs.level.LevelDecider.fits.Goals as goal

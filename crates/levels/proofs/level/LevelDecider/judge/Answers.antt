@@ -1,7 +1,6 @@
-use Rattle.std.proofs.Common.{◌≡◌, sym, ap, ◌∙◌}
+use Rattle.std.proofs.Common.{sym, ap, ◌∙◌}
 use Rattle.std.proofs.lemmas.Result.{MatchResult-weaker}
 use Rattle.filters.specs.declared.Hashing.{Hashing}
-use Rattle.levels.specs.Deciders.{Over}
 use Rattle.levels.proofs.Reading.{level_loads, level_refuses}
 use Rattle.levels.proofs.level.LevelDecider.judge.Goals as goal
 

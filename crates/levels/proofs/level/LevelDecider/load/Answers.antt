@@ -1,7 +1,7 @@
-use Rattle.std.proofs.Common.{◌≡◌, ℕ, Ok, sym, ap, ◌∙◌, arith}
+use Rattle.std.proofs.Common.{Ok, sym, ap, ◌∙◌}
 use Rattle.std.proofs.lemmas.Result.{MatchResult-weaker}
 use Rattle.filters.specs.declared.Hashing.{Hashing}
-use Rattle.levels.specs.Deciders.{Over, table_of}
+use Rattle.levels.specs.Deciders.{table_of}
 use Rattle.fields.proofs.Steps.{never}
 use Rattle.levels.proofs.Reading.{level_loads, level_refuses, load_done, read_judged}
 use Rattle.levels.proofs.level.LevelDecider.load.Goals as goal

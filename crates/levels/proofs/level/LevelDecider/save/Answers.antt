@@ -1,10 +1,10 @@
-use Rattle.std.proofs.Common.{◌≡◌, ℕ, ◌+◌, ◌-◌, ◌≤◌, true, leb, List, ◌++◌, length, take, drop, sym, ap, ◌∙◌, arith, length-append, length-drop}
+use Rattle.std.proofs.Common.{ℕ, ◌+◌, ◌-◌, ◌++◌, length, take, drop, sym, ap, ◌∙◌, arith, length-append, length-drop}
 use borrow.Rule.Slice.PartMut.{put_mid}
 use Rattle.std.proofs.lemmas.Bool.{leb-true}
 use Rattle.passes.specs.Outputs.{written_to}
 use Rattle.fields.specs.Fields.{field}
 use Rattle.levels.specs.Deciders.{tag_of, next}
-use Rattle.passes.proofs.Outputs.{Wrote, wrote, wrote_none, wrote_to as writes, chain, behind}
+use Rattle.passes.proofs.Outputs.{wrote, wrote_none, wrote_to as writes, chain, behind}
 use Rattle.levels.proofs.level.LevelDecider.save.Goals as goal
 
 pub returns-in_err-n : goal.returns-in_err-n

@@ -1,4 +1,4 @@
-use Rattle.std.proofs.Common.{◌≡◌, ℕ, ◌-◌, ◌≤◌, List, length, sym, ap, ◌∙◌, arith, rules}
+use Rattle.std.proofs.Common.{List, sym, ap, ◌∙◌, arith, rules}
 use Rattle.levels.specs.Rows.{Row, listed}
 use Rattle.piles.specs.Tries.{at_salt}
 use Rattle.piles.proofs.Salts.{retried_ok, retried_end, retried_on}
