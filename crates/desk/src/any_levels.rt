@@ -70,17 +70,17 @@ fn built<D: Decider + Drop>(
     Ok((levels, salt))
 }
 
-/// New levels that are loaded from the fields at the front of an input.
+/// New levels that are loaded from the fields at the front of an input, and where the fields end.
 fn loaded<D: Decider + Drop>(
     heap: Global,
     hashing: Hashing,
     input: &[u8],
-) -> Result<Box<Retry<D>>, Fault>
-    ensures { IfOk result (λ b. (n : ℕ) × (D.Decider.decider.loads hashing input.now 0 ≡ Ok (D.Decider.state (box_value b).below, n))) }
+) -> Result<(Box<Retry<D>>, usize), Fault>
+    ensures { IfOk result (λ p. D.Decider.decider.loads hashing input.now 0 ≡ Ok (D.Decider.state (box_value p.0).below, p.1)) }
 {
     let mut levels = Box::new(heap, Retry::<D>::blank())?;
-    load_fields(&mut *levels, hashing, input)?;
-    Ok(levels)
+    let end = load_fields(&mut *levels, hashing, input)?;
+    Ok((levels, end))
 }
 
 /// The fields that levels save, the first being level 1.
@@ -104,7 +104,10 @@ fn fresh<D: Decider + Drop>(
 {
     let (levels, salt) = match source {
         Source::Register { plan, list, room } => built(heap, &plan, list, room)?,
-        Source::Fields { hashing, input } => (loaded(heap, hashing, input)?, hashing.salt),
+        Source::Fields { hashing, input } => {
+            let (levels, _) = loaded(heap, hashing, input)?;
+            (levels, hashing.salt)
+        }
     };
     let fields = saved(heap, &*levels)?;
     Ok((levels, salt, fields))

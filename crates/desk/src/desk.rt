@@ -32,10 +32,7 @@ pub struct Desk {
 
 /// Writes an error of a line.
 fn error(line: u64, text: impl Display + Drop, out: &mut String) -> Result<(), AllocError> {
-    match writeln!(out, "error {line}: {text}") {
-        Ok(()) => Ok(()),
-        Err(_) => Err(AllocError),
-    }
+    writeln!(out, "error {line}: {text}")
 }
 
 /// Says why the command of a line, which has this form, was not done.
@@ -55,10 +52,7 @@ fn complain(line: u64, form: &str, fault: Fault, out: &mut String) -> Result<(),
         Fault::NoPlan => error(line, "no plan", out),
         Fault::NoSuchMake => error(line, "no such make", out),
         Fault::NoLevels => error(line, "no levels", out),
-        Fault::Refused(refusal) => match write_refusal(refusal, out) {
-            Ok(()) => Ok(()),
-            Err(_) => Err(AllocError),
-        },
+        Fault::Refused(refusal) => write_refusal(refusal, out),
     }
 }
 

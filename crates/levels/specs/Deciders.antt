@@ -70,6 +70,9 @@ pub record Decides (S : Type 0) : Type 0 where
   pub saved : ℕ → S → List ℕ
   -- read from an input at a place; and the place behind
   pub loads : Hashing → List ℕ → ℕ → Result (S × ℕ) Refusal
+
+-- What the levels of a decider save: a table each.
+pub record Saves (S : Type 0) : Type 0 where
   -- how each level judges its table, from the top down
   pub tables : List Table
   -- the table that each level saves
@@ -128,9 +131,13 @@ level_decides k d = record {
   build = λ h sizes rs. elim sizes [ [] ↦ Err (plain BadSetting) | size ∷ rest ↦ then (begun k (at_size h size) rs) (λ v. then (d.build (deeper h) rest (map (turn k v) rs)) (λ s. Ok (record { filter = v; below = s }))) ];
   saved = λ l s. field (tag_of l) (k.saved s.filter) ++ d.saved (next l) s.below;
   loads = λ h input at. then (table_at k (tag_of h.level) h.hashes input at) (λ body. then (d.loads (deeper h) input (at + 3 + length body)) (λ p. Ok (record { filter = k.loaded h body; below = p.0 }, p.1)));
-  tables = table_of k ∷ d.tables;
-  bodies = λ s. k.saved s.filter ∷ d.bodies s.below;
-  restore = λ h bs. elim bs [ [] ↦ record { filter = k.blank; below = d.blank } | b ∷ rest ↦ record { filter = k.loaded h b; below = d.restore (deeper h) rest } ];
+}
+
+abbrev pub level_saves : {V S : Type 0} → Kind V → Saves S → Saves (Over V S)
+level_saves k low = record {
+  tables = table_of k ∷ low.tables;
+  bodies = λ s. k.saved s.filter ∷ low.bodies s.below;
+  restore = λ h bs. elim bs [ [] ↦ record { filter = k.blank; below = low.restore (deeper h) [] } | b ∷ rest ↦ record { filter = k.loaded h b; below = low.restore (deeper h) rest } ];
 }
 
 -- The end: an exact filter that holds every "for". Its table has 1,536 bytes.
@@ -142,6 +149,10 @@ end_decides k = record {
   build = λ h sizes rs. elim sizes [ [] ↦ begun k (at_size h 1536) rs | size ∷ rest ↦ Err (plain BadSetting) ];
   saved = λ l v. field (tag_of l) (k.saved v);
   loads = λ h input at. then (table_at k (tag_of h.level) h.hashes input at) (λ body. Ok (k.loaded h body, at + 3 + length body));
+}
+
+abbrev pub end_saves : {V : Type 0} → Kind V → Saves V
+end_saves k = record {
   tables = table_of k ∷ [];
   bodies = λ v. k.saved v ∷ [];
   restore = λ h bs. elim bs [ [] ↦ k.blank | b ∷ rest ↦ k.loaded h b ];

@@ -17,8 +17,8 @@ use Rattle.fields.specs.Fields.{field}
 use Rattle.fields.specs.Reading.{then}
 use Rattle.levels.specs.declared.Side.TheVariants.{For, Against}
 use Rattle.levels.specs.Rows.{Row, In, Distinct, LawfulRows}
-use Rattle.levels.specs.Deciders.{Answer, Decides, Over, next, fill, turn, remark, begun, placed, at_size, deeper, tag_of, table_of, table_at, level_decides, end_decides, turned}
-use Rattle.levels.specs.Laws.{Right, first_no, Restores, Fits, AllFit, Keeps}
+use Rattle.levels.specs.Deciders.{Answer, Decides, Over, next, fill, turn, remark, begun, placed, at_size, deeper, tag_of, table_of, table_at, level_decides, end_decides, turned, Saves, level_saves, end_saves}
+use Rattle.levels.specs.Laws.{Right, first_no, Restores, Fits, AllFit, Keeps, SavesTables}
 use Rattle.fields.proofs.Readback.{length_field}
 use Rattle.levels.specs.Fields.{table_read}
 use Rattle.levels.specs.Bodies.{end_as_fields, end_from_fields, level_from_fields}
@@ -155,9 +155,9 @@ module _ {V : Type 0} (k : Kind V) (rules : Rules k) where
   source_of true a n e = ap next e
   source_of false a n e = refl
 
-  first_of : (says : Bool) (bs : List Bool) → first_no (says ∷ bs) ≡ cond says (next (first_no bs)) 1
-  first_of true bs = refl
-  first_of false bs = refl
+  first_no_more : (says : Bool) (bs : List Bool) → first_no (says ∷ bs) ≡ cond says (next (first_no bs)) 1
+  first_no_more true bs = refl
+  first_no_more false bs = refl
 
   end_source : (says : Bool) → ◌≡◌ {A = ℕ} (cond {A = Answer} says (For, 2) (Against, 1)).1 (first_no (says ∷ []))
   end_source true = refl
@@ -197,7 +197,7 @@ module _ {V : Type 0} (k : Kind V) (rules : Rules k) where
   end_build h [] rs w e = e
   end_build h (n ∷ ns) rs w e = absurd (never (plain BadSetting) w e)
 
-  end_fits : (h : Hashing) (sizes : List ℕ) (rs : List Row) (w : V) → LawfulRows rs → (end_decides k).build h sizes rs ≡ Ok w → AllFit (end_decides k).tables h.hashes (sizes ++ 1536 ∷ []) ((end_decides k).bodies w)
+  end_fits : (h : Hashing) (sizes : List ℕ) (rs : List Row) (w : V) → LawfulRows rs → (end_decides k).build h sizes rs ≡ Ok w → AllFit (end_saves k).tables h.hashes (sizes ++ 1536 ∷ []) ((end_saves k).bodies w)
   end_fits h [] rs w l e = (begun_fits h 1536 rs w l e, tt)
   end_fits h (n ∷ ns) rs w l e = absurd (never (plain BadSetting) w e)
 
@@ -207,10 +207,10 @@ module _ {V : Type 0} (k : Kind V) (rules : Rules k) where
     source = λ s x. end_source (k.says s x);
     right = λ h sizes rs s d l e r m. end_right alone h rs s d l (end_build h sizes rs s e) r m;
     restored = λ h sizes rs s l e front back. end_restores h rs s l (end_build h sizes rs s e) front back;
-    as_fields = end_as_fields k;
-    from_fields = end_from_fields k;
-    fitting = end_fits;
   }
+
+  pub end_saves_tables : SavesTables (end_decides k) (end_saves k)
+  end_saves_tables = record { as_fields = end_as_fields k; from_fields = end_from_fields k; fitting = end_fits }
 
   -- what a level was built from
   record Built {S : Type 0} (d : Decides S) (h : Hashing) (sizes : List ℕ) (rs : List Row) (s : Over V S) : Type 0 where
@@ -278,19 +278,23 @@ module _ {V : Type 0} (k : Kind V) (rules : Rules k) where
         alike = λ x lx. rw (r.says x lx, low.alike x lx);
       }
 
-  level_fits : {S : Type 0} (d : Decides S) → Keeps d → (h : Hashing) (sizes : List ℕ) (rs : List Row) (s : Over V S) → LawfulRows rs → Built d h sizes rs s → AllFit (level_decides k d).tables h.hashes (sizes ++ 1536 ∷ []) ((level_decides k d).bodies s)
-  level_fits d keeps h sizes rs s l b =
+  level_fits : {S : Type 0} (d : Decides S) (low : Saves S) → SavesTables d low → (h : Hashing) (sizes : List ℕ) (rs : List Row) (s : Over V S) → LawfulRows rs → Built d h sizes rs s → AllFit (level_saves k low).tables h.hashes (sizes ++ 1536 ∷ []) ((level_saves k low).bodies s)
+  level_fits d low tabled h sizes rs s l b =
       let w = s.filter in
-      let low = keeps.fitting (deeper h) b.rest (map (turn k w) rs) s.below (turn_lawful w rs l) b.below in
-      rw b.split (begun_fits h b.size rs w l b.filter, low)
+      let more = tabled.fitting (deeper h) b.rest (map (turn k w) rs) s.below (turn_lawful w rs l) b.below in
+      rw b.split (begun_fits h b.size rs w l b.filter, more)
 
   pub level_keeps : {S : Type 0} (d : Decides S) → Keeps d → Keeps (level_decides k d)
   level_keeps {S} d keeps = record {
     none = λ x l. rw (rules.none_blank x l);
-    source = λ s x. source_of (k.says s.filter x) (d.decides s.below x) (first_no (d.answers s.below x)) (keeps.source s.below x) ∙ sym (first_of (k.says s.filter x) (d.answers s.below x));
+    source = λ s x. source_of (k.says s.filter x) (d.decides s.below x) (first_no (d.answers s.below x)) (keeps.source s.below x) ∙ sym (first_no_more (k.says s.filter x) (d.answers s.below x));
     right = λ h sizes rs s dis l e r m. level_right d keeps h sizes rs s dis l (level_build d h sizes rs s e) r m;
     restored = λ h sizes rs s l e front back. level_restores d keeps h sizes rs s l (level_build d h sizes rs s e) front back;
-    as_fields = λ level s. ap (λ (t : List ℕ). field (tag_of level) (k.saved s.filter) ++ t) (keeps.as_fields (next level) s.below);
-    from_fields = λ h input at. level_from_fields k d h input at (λ p. keeps.from_fields (deeper h) input p);
-    fitting = λ h sizes rs s l e. level_fits d keeps h sizes rs s l (level_build d h sizes rs s e);
+  }
+
+  pub level_saves_tables : {S : Type 0} (d : Decides S) (low : Saves S) → SavesTables d low → SavesTables (level_decides k d) (level_saves k low)
+  level_saves_tables d low tabled = record {
+    as_fields = λ level s. ap (λ (t : List ℕ). field (tag_of level) (k.saved s.filter) ++ t) (tabled.as_fields (next level) s.below);
+    from_fields = λ h input at. level_from_fields k d low h input at (λ p. tabled.from_fields (deeper h) input p);
+    fitting = λ h sizes rs s l e. level_fits d low tabled h sizes rs s l (level_build d h sizes rs s e);
   }

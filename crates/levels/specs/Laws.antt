@@ -6,7 +6,7 @@ use Rattle.filters.specs.declared.Hashing.{Hashing}
 use Rattle.fields.specs.Reading.{then}
 use Rattle.levels.specs.declared.Side.TheVariants.{For, Against}
 use Rattle.levels.specs.Rows.{Row, In, Distinct, LawfulRows}
-use Rattle.levels.specs.Deciders.{Decides, Table, tables_at, table_fields, next}
+use Rattle.levels.specs.Deciders.{Decides, Saves, Table, tables_at, table_fields, next}
 
 -- a row is decided by its side
 pub record Right {S : Type 0} (d : Decides S) (s : S) (r : Row) : Type 0 where
@@ -51,9 +51,12 @@ pub record Keeps {S : Type 0} (d : Decides S) : Type 0 where
   pub right : (h : Hashing) (sizes : List ℕ) (rs : List Row) (s : S) → Distinct rs → LawfulRows rs → d.build h sizes rs ≡ Ok s → (r : Row) → In r rs → Right d s r
   -- saved and loaded, it decides every identifier as before, from the same source
   pub restored : (h : Hashing) (sizes : List ℕ) (rs : List Row) (s : S) → LawfulRows rs → d.build h sizes rs ≡ Ok s → (front back : List ℕ) → Restores d h s front back
+
+-- What a decider keeps whose levels save a table each.
+pub record SavesTables {S : Type 0} (d : Decides S) (saves : Saves S) : Type 0 where
   -- what is saved is the fields of its tables
-  pub as_fields : (level : ℕ) (s : S) → d.saved level s ≡ table_fields level (d.bodies s)
+  pub as_fields : (level : ℕ) (s : S) → d.saved level s ≡ table_fields level (saves.bodies s)
   -- what is loaded is read table by table
-  pub from_fields : (h : Hashing) (input : List ℕ) (at : ℕ) → d.loads h input at ≡ then (tables_at d.tables h.level h.hashes input at) (λ bs. Ok (d.restore h bs, at + length (table_fields h.level bs)))
+  pub from_fields : (h : Hashing) (input : List ℕ) (at : ℕ) → d.loads h input at ≡ then (tables_at saves.tables h.level h.hashes input at) (λ bs. Ok (saves.restore h bs, at + length (table_fields h.level bs)))
   -- built tables fit
-  pub fitting : (h : Hashing) (sizes : List ℕ) (rs : List Row) (s : S) → LawfulRows rs → d.build h sizes rs ≡ Ok s → AllFit d.tables h.hashes (sizes ++ 1536 ∷ []) (d.bodies s)
+  pub fitting : (h : Hashing) (sizes : List ℕ) (rs : List Row) (s : S) → LawfulRows rs → d.build h sizes rs ≡ Ok s → AllFit saves.tables h.hashes (sizes ++ 1536 ∷ []) (saves.bodies s)

@@ -1,8 +1,8 @@
 ghost use Rattle.std.specs.Prelude.{◌≡◌, ℕ, List, length, Ok, Err, MatchResult, nat_le};
 ghost use Rattle.passes.specs.Outputs.{written_to};
 ghost use Rattle.levels.specs.Rows.{rows};
-ghost use Rattle.levels.specs.Deciders.{Decides};
-ghost use Rattle.levels.specs.Laws.{Keeps};
+ghost use Rattle.levels.specs.Deciders.{Decides, Saves};
+ghost use Rattle.levels.specs.Laws.{Keeps, SavesTables};
 
 use crate::{Entry, Side};
 use fields::reader::Reader;
@@ -17,6 +17,8 @@ pub trait Decider: Sized {
     ghost decider: { Decides State };
 
     ghost state: { Self → State };
+
+    ghost saves: { Saves State };
 
     /// A decider before any build or load: it decides for none.
     fn blank() -> Self
@@ -62,4 +64,9 @@ pub trait Decider: Sized {
         ensures input { reader.new.input.now ≡ reader.old.input.now };
 
     ghost keeps: { Keeps decider };
+}
+
+/// A decider whose levels save a table each.
+pub trait Tabled: Decider {
+    ghost saves_tables: { SavesTables Self.Decider.decider Self.Decider.saves };
 }

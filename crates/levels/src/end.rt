@@ -1,9 +1,9 @@
 ghost use Rattle.std.specs.Prelude.{◌≡◌, ℕ, List};
-ghost use Rattle.levels.specs.Deciders.{end_decides};
-ghost use Rattle.levels.specs.Keeping.{end_keeps};
+ghost use Rattle.levels.specs.Deciders.{end_decides, end_saves};
+ghost use Rattle.levels.specs.Keeping.{end_keeps, end_saves_tables};
 
 use crate::building::begin;
-use crate::decider::Decider;
+use crate::decider::{Decider, Tabled};
 use crate::tables::{read_table, tag_of, write_table};
 use crate::{Entry, Side};
 use fields::reader::Reader;
@@ -23,6 +23,8 @@ impl<F: Exact> Decider for End<F> {
     ghost decider = { end_decides F.Filter.kind };
 
     ghost state = { λ e. F.Filter.view e.filter };
+
+    ghost saves = { end_saves F.Filter.kind };
 
     ghost keeps = { end_keeps F.Filter.kind F.Filter.rules F.Exact.alone };
 
@@ -76,4 +78,8 @@ impl<F: Exact> Decider for End<F> {
         let body = read_table::<F>(tag_of(at.level), at.hashes, reader)?;
         self.filter.load(at, body)
     }
+}
+
+impl<F: Exact> Tabled for End<F> {
+    ghost saves_tables = { end_saves_tables F.Filter.kind F.Filter.rules };
 }

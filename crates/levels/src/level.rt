@@ -1,9 +1,9 @@
 ghost use Rattle.std.specs.Prelude.{◌≡◌, ℕ, List};
-ghost use Rattle.levels.specs.Deciders.{Over, deeper, level_decides};
-ghost use Rattle.levels.specs.Keeping.{level_keeps};
+ghost use Rattle.levels.specs.Deciders.{Over, deeper, level_decides, level_saves};
+ghost use Rattle.levels.specs.Keeping.{level_keeps, level_saves_tables};
 
 use crate::building::{begin, turn};
-use crate::decider::Decider;
+use crate::decider::{Decider, Tabled};
 use crate::tables::{read_table, tag_of, write_table};
 use crate::{Entry, Side};
 use fields::reader::Reader;
@@ -35,6 +35,8 @@ impl<F: Filter, D: Decider> Decider for Level<F, D> {
     ghost decider = { level_decides F.Filter.kind D.Decider.decider };
 
     ghost state = { λ e. record { filter = F.Filter.view e.filter; below = D.Decider.state e.below } };
+
+    ghost saves = { level_saves F.Filter.kind D.Decider.saves };
 
     ghost keeps = { level_keeps F.Filter.kind F.Filter.rules D.Decider.decider D.Decider.keeps };
 
@@ -107,4 +109,8 @@ impl<F: Filter, D: Decider> Decider for Level<F, D> {
         self.filter.load(at, body)?;
         self.below.load(deeper(at), reader)
     }
+}
+
+impl<F: Filter, D: Tabled> Tabled for Level<F, D> {
+    ghost saves_tables = { level_saves_tables F.Filter.kind F.Filter.rules D.Decider.decider D.Decider.saves D.Tabled.saves_tables };
 }

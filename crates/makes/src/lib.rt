@@ -11,7 +11,7 @@ ghost use Rattle.makes.specs.Makes.{over_bloom, known};
 use bloom::table::Bloom;
 use cuckoo::table::Cuckoo;
 use exact::table::ExactList;
-use levels::decider::Decider;
+use levels::decider::Tabled;
 use piles::pile::Six;
 use publication_layout::reader::read_publication;
 use publications::Publication;
@@ -27,12 +27,12 @@ pub type AllBloom = BloomBelow<Bloom>;
 pub type CuckooFirst = BloomBelow<Cuckoo>;
 
 /// Reads a whole input as a publication of make 1 or 2, or of one's own make, whose levels are `G`.
-pub fn read_known<'a, G: Decider>(own: u8, input: &'a [u8]) -> Result<Publication<'a>, Refusal>
+pub fn read_known<'a, G: Tabled>(own: u8, input: &'a [u8]) -> Result<Publication<'a>, Refusal>
     ensures value { MatchResult result
-        (λ p. Holds (known G.Decider.decider.tables own) input.now p)
-        (λ e. reads (known G.Decider.decider.tables own) input.now ≡ Err e) }
-    ensures meaning { Decides (is_ok result) (Written (known G.Decider.decider.tables own) input.now) }
-    ensures law { LayoutLaw (known G.Decider.decider.tables own) }
+        (λ p. Holds (known G.Decider.saves.tables own) input.now p)
+        (λ e. reads (known G.Decider.saves.tables own) input.now ≡ Err e) }
+    ensures meaning { Decides (is_ok result) (Written (known G.Decider.saves.tables own) input.now) }
+    ensures law { LayoutLaw (known G.Decider.saves.tables own) }
 {
     read_publication::<AllBloom, CuckooFirst, G>(own, input)
 }

@@ -1,5 +1,6 @@
 ghost use Rattle.std.specs.Prelude.{◌≡◌, ℕ, true, List, Ok, Err, MatchResult};
-ghost use Rattle.piles.specs.Piles.{six, SixLaw};
+ghost use Rattle.levels.specs.Laws.{SavesTables};
+ghost use Rattle.piles.specs.Piles.{six, six_saves, SixLaw};
 
 use fields::reader::Reader;
 use filters::{Exact, Filter, Hashing};
@@ -25,7 +26,8 @@ pub fn six_levels_decide<
     F6: Filter,
     E: Exact,
 >() -> bool
-    ensures { (SixLaw (six F1.Filter.kind F2.Filter.kind F3.Filter.kind F4.Filter.kind F5.Filter.kind F6.Filter.kind E.Filter.kind)) × (result ≡ true) }
+    ensures law { (SixLaw (six F1.Filter.kind F2.Filter.kind F3.Filter.kind F4.Filter.kind F5.Filter.kind F6.Filter.kind E.Filter.kind)) × (result ≡ true) }
+    ensures tables { SavesTables (six F1.Filter.kind F2.Filter.kind F3.Filter.kind F4.Filter.kind F5.Filter.kind F6.Filter.kind E.Filter.kind) (six_saves F1.Filter.kind F2.Filter.kind F3.Filter.kind F4.Filter.kind F5.Filter.kind F6.Filter.kind E.Filter.kind) }
 {
     true
 }

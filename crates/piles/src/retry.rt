@@ -5,7 +5,7 @@ ghost use Rattle.std.proofs.Common.{rules};
 
 use fields::reader::Reader;
 use filters::Hashing;
-use levels::decider::Decider;
+use levels::decider::{Decider, Tabled};
 use levels::{Entry, Side};
 use passes::identifier::Identifier;
 use refusals::{Reason, Refusal};
@@ -116,7 +116,9 @@ impl<D: Decider> Decider for Retry<D> {
 
     ghost state = { λ r. D.Decider.state r.below };
 
-    ghost keeps = { Prim.search rules };
+    ghost saves = { D.Decider.saves };
+
+    ghost keeps = { D.Decider.keeps };
 
     fn blank() -> Self {
         Retry { below: D::blank() }
@@ -151,4 +153,8 @@ impl<D: Decider> Decider for Retry<D> {
     fn load(&mut self, at: Hashing, reader: &mut Reader<'_>) -> Result<(), Refusal> {
         self.below.load(at, reader)
     }
+}
+
+impl<D: Tabled> Tabled for Retry<D> {
+    ghost saves_tables = { D.Tabled.saves_tables };
 }

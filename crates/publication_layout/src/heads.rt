@@ -6,7 +6,7 @@ ghost use Rattle.publications.specs.Reading.{known_makes, known_tables, head_in,
 
 use fields::reader::Reader;
 use filters::Hashing;
-use levels::decider::Decider;
+use levels::decider::Tabled;
 use publications::PublicationHead;
 use refusals::{Reason, Refusal};
 
@@ -25,12 +25,9 @@ fn is_hash_count(n: u8) -> bool
 }
 
 /// The head in a body of 9 bytes.
-fn head_in<A: Decider, B: Decider, G: Decider>(
-    own: u8,
-    body: &[u8],
-) -> Result<PublicationHead, Reason>
+fn head_in<A: Tabled, B: Tabled, G: Tabled>(own: u8, body: &[u8]) -> Result<PublicationHead, Reason>
     requires { 9 ≤ length body.now }
-    ensures { result ≡ head_in (known_makes A.Decider.decider.tables B.Decider.decider.tables G.Decider.decider.tables own) body.now }
+    ensures { result ≡ head_in (known_makes A.Decider.saves.tables B.Decider.saves.tables G.Decider.saves.tables own) body.now }
 {
     let number = u32::from_be_bytes([body[5], body[6], body[7], body[8]]);
     let known = is_known(own, body[1]);
@@ -46,13 +43,13 @@ fn head_in<A: Decider, B: Decider, G: Decider>(
 }
 
 /// Reads the head.
-pub(crate) fn read_head<A: Decider, B: Decider, G: Decider>(
+pub(crate) fn read_head<A: Tabled, B: Tabled, G: Tabled>(
     own: u8,
     reader: &mut Reader<'_>,
 ) -> Result<PublicationHead, Refusal>
     ensures verdict { MatchResult result
-        (λ h. (head_at (known_makes A.Decider.decider.tables B.Decider.decider.tables G.Decider.decider.tables own) reader.old.input.now reader.old.at ≡ Ok h) × (reader.new.at ≡ reader.old.at + 12))
-        (λ e. head_at (known_makes A.Decider.decider.tables B.Decider.decider.tables G.Decider.decider.tables own) reader.old.input.now reader.old.at ≡ Err e) }
+        (λ h. (head_at (known_makes A.Decider.saves.tables B.Decider.saves.tables G.Decider.saves.tables own) reader.old.input.now reader.old.at ≡ Ok h) × (reader.new.at ≡ reader.old.at + 12))
+        (λ e. head_at (known_makes A.Decider.saves.tables B.Decider.saves.tables G.Decider.saves.tables own) reader.old.input.now reader.old.at ≡ Err e) }
     ensures input { reader.new.input.now ≡ reader.old.input.now }
 {
     let place = reader.place();
@@ -68,15 +65,15 @@ pub(crate) fn read_head<A: Decider, B: Decider, G: Decider>(
 }
 
 /// Judges the fields of the tables by the make that the head names.
-pub(crate) fn judge_tables<A: Decider, B: Decider, G: Decider>(
+pub(crate) fn judge_tables<A: Tabled, B: Tabled, G: Tabled>(
     own: u8,
     head: PublicationHead,
     reader: &mut Reader<'_>,
 ) -> Result<(), Refusal>
-    requires { is_some (known_makes A.Decider.decider.tables B.Decider.decider.tables G.Decider.decider.tables own head.make) ≡ true }
+    requires { is_some (known_makes A.Decider.saves.tables B.Decider.saves.tables G.Decider.saves.tables own head.make) ≡ true }
     ensures verdict { MatchResult result
-        (λ _. (bs : List (List ℕ)) × (tables_at (known_tables (known_makes A.Decider.decider.tables B.Decider.decider.tables G.Decider.decider.tables own head.make)) 1 head.hashes reader.old.input.now reader.old.at ≡ Ok bs) × (reader.new.at ≡ reader.old.at + length (table_fields 1 bs)))
-        (λ e. tables_at (known_tables (known_makes A.Decider.decider.tables B.Decider.decider.tables G.Decider.decider.tables own head.make)) 1 head.hashes reader.old.input.now reader.old.at ≡ Err e) }
+        (λ _. (bs : List (List ℕ)) × (tables_at (known_tables (known_makes A.Decider.saves.tables B.Decider.saves.tables G.Decider.saves.tables own head.make)) 1 head.hashes reader.old.input.now reader.old.at ≡ Ok bs) × (reader.new.at ≡ reader.old.at + length (table_fields 1 bs)))
+        (λ e. tables_at (known_tables (known_makes A.Decider.saves.tables B.Decider.saves.tables G.Decider.saves.tables own head.make)) 1 head.hashes reader.old.input.now reader.old.at ≡ Err e) }
     ensures input { reader.new.input.now ≡ reader.old.input.now }
 {
     let at = Hashing {

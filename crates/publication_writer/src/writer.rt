@@ -5,7 +5,7 @@ ghost use Rattle.publications.specs.Publications.{kind_byte, head_field, row_byt
 ghost use Rattle.publications.specs.Layout.{WriterLaw};
 
 use fields::checks::seal;
-use levels::decider::Decider;
+use levels::decider::{Decider, Tabled};
 use publications::{CoverageRow, PassKind, PublicationHead};
 
 /// The byte of a kind.
@@ -116,14 +116,14 @@ fn fill_publication<D: Decider>(
 
 /// Writes a publication with the tables of levels to the front of the output and says how many bytes it has; none, and nothing is
 /// written, if it does not fit.
-pub fn write_publication<D: Decider>(
+pub fn write_publication<D: Tabled>(
     head: PublicationHead,
     rows: &[CoverageRow],
     levels: &D,
     out: &mut [u8],
 ) -> Option<usize>
     ensures written { (result, out.new) ≡ written_to (published head rows.now (D.Decider.decider.saved 1 (D.Decider.state levels.now))) out.old }
-    ensures law { WriterLaw D.Decider.decider }
+    ensures law { WriterLaw D.Decider.decider D.Decider.saves }
 {
     if !has_room(rows, levels, out.len()) {
         return None;

@@ -5,8 +5,8 @@ use Rattle.filters.specs.declared.Hashing.{Hashing}
 use Rattle.fields.specs.Fields.{field}
 use Rattle.fields.proofs.Readback.{length_field}
 use Rattle.levels.specs.Rows.{Row, LawfulRows}
-use Rattle.levels.specs.Deciders.{Table, Decides, next, tag_of, table_fields}
-use Rattle.levels.specs.Laws.{Keeps, AllFit}
+use Rattle.levels.specs.Deciders.{Table, Decides, next, tag_of, table_fields, Saves}
+use Rattle.levels.specs.Laws.{SavesTables, AllFit}
 use Rattle.publications.specs.declared.CoverageRow.{CoverageRow}
 use Rattle.publications.specs.declared.PublicationHead.{PublicationHead}
 use Rattle.publications.specs.Publications.{published}
@@ -37,19 +37,19 @@ fields_length (t ∷ ts) hashes level (n ∷ ns) (b ∷ bs) (f, more) =
     let low = fields_length ts hashes (next level) ns bs more in
     omega arith
 
-module _ {S : Type 0} (d : Decides S) (keeps : Keeps d) where
+module _ {S : Type 0} (d : Decides S) (saves : Saves S) (tabled : SavesTables d saves) where
   longest : (at : Hashing) (sizes : List ℕ) (register : List Row) (s : S) → LawfulRows register → d.build at sizes register ≡ Ok s → length sizes ≡ 6 → (h : PublicationHead) (rs : List CoverageRow) → length rs ≤ 64 → length (published h rs (d.saved 1 s)) ≤ 14315
   longest at sizes register s l e six h rs few =
-      let f = fields_length d.tables at.hashes 1 sizes (d.bodies s) (keeps.fitting at sizes register s l e) in
-      let n = ap length (keeps.as_fields 1 s) in
+      let f = fields_length saves.tables at.hashes 1 sizes (saves.bodies s) (tabled.fitting at sizes register s l e) in
+      let n = ap length (tabled.as_fields 1 s) in
       let a = published_length h rs (d.saved 1 s) in
       omega arith
 
-  read_back : (at : Hashing) (sizes : List ℕ) (register : List Row) (s : S) → LawfulRows register → d.build at sizes register ≡ Ok s → (makes : Makes) (h : PublicationHead) (rs : List CoverageRow) → AllowedHead makes h d.tables → h.hashes ≡ at.hashes → AllowedCoverage rs → reads makes (published h rs (d.saved 1 s)) ≡ Ok (record { head = h; coverage = rs; tables = d.bodies s })
+  read_back : (at : Hashing) (sizes : List ℕ) (register : List Row) (s : S) → LawfulRows register → d.build at sizes register ≡ Ok s → (makes : Makes) (h : PublicationHead) (rs : List CoverageRow) → AllowedHead makes h saves.tables → h.hashes ≡ at.hashes → AllowedCoverage rs → reads makes (published h rs (d.saved 1 s)) ≡ Ok (record { head = h; coverage = rs; tables = saves.bodies s })
   read_back at sizes register s l e makes h rs a same c =
-      let P : ℕ → Type 0 = λ n. AcceptedTables d.tables n (d.bodies s) in
-      let t = subst P (sym same) (fit_accepted d.tables at.hashes (sizes ++ 1536 ∷ []) (d.bodies s) (keeps.fitting at sizes register s l e)) in
-      ap (λ (x : List ℕ). reads makes (published h rs x)) (keeps.as_fields 1 s) ∙ content_back makes h rs (d.bodies s) d.tables a c t
+      let P : ℕ → Type 0 = λ n. AcceptedTables saves.tables n (saves.bodies s) in
+      let t = subst P (sym same) (fit_accepted saves.tables at.hashes (sizes ++ 1536 ∷ []) (saves.bodies s) (tabled.fitting at sizes register s l e)) in
+      ap (λ (x : List ℕ). reads makes (published h rs x)) (tabled.as_fields 1 s) ∙ content_back makes h rs (saves.bodies s) saves.tables a c t
 
-  pub writer_law : WriterLaw d
+  pub writer_law : WriterLaw d saves
   writer_law = record { read_back = read_back; longest = longest }

@@ -5,8 +5,8 @@ use Rattle.refusals.specs.declared.Refusal.{Refusal}
 use Rattle.filters.specs.declared.Hashing.{Hashing}
 use Rattle.fields.specs.Reading.{then, check_at}
 use Rattle.fields.proofs.Steps.{never}
-use Rattle.levels.specs.Deciders.{Table, Decides, table_in, tables_at, table_fields}
-use Rattle.levels.specs.Laws.{Keeps}
+use Rattle.levels.specs.Deciders.{Table, Decides, table_in, tables_at, table_fields, Saves}
+use Rattle.levels.specs.Laws.{SavesTables}
 use Rattle.publications.specs.declared.PublicationHead.{PublicationHead}
 use Rattle.publications.specs.Reading.{Makes, head_at, rows_in, unsaid, coverage_judge, known_tables, known_makes, reads}
 
@@ -14,20 +14,20 @@ use Rattle.publications.specs.Reading.{Makes, head_at, rows_in, unsaid, coverage
 abbrev pub TablesRead : List Table → ℕ → ℕ → List ℕ → ℕ → ℕ → Result (Unit {0}) Refusal → Type 0
 TablesRead ts level hashes input at at2 r = MatchResult r (λ _. (bs : List (List ℕ)) × (tables_at ts level hashes input at ≡ Ok bs) × (at2 ≡ at + length (table_fields level bs))) (λ e. tables_at ts level hashes input at ≡ Err e)
 
-module _ {S : Type 0} (d : Decides S) (keeps : Keeps d) (h : Hashing) (input : List ℕ) (at at2 : ℕ) where
-  found : (s : S) (t : Result (List (List ℕ)) Refusal) → then {B = S × ℕ} t (λ bs. Ok (d.restore h bs, at + length (table_fields h.level bs))) ≡ Ok (s, at2) → (bs : List (List ℕ)) × (t ≡ Ok bs) × (at2 ≡ at + length (table_fields h.level bs))
+module _ {S : Type 0} (d : Decides S) (saves : Saves S) (tabled : SavesTables d saves) (h : Hashing) (input : List ℕ) (at at2 : ℕ) where
+  found : (s : S) (t : Result (List (List ℕ)) Refusal) → then {B = S × ℕ} t (λ bs. Ok (saves.restore h bs, at + length (table_fields h.level bs))) ≡ Ok (s, at2) → (bs : List (List ℕ)) × (t ≡ Ok bs) × (at2 ≡ at + length (table_fields h.level bs))
   found s (Ok bs) e =
-      let q : ◌≡◌ {A = S × ℕ} (d.restore h bs, at + length (table_fields h.level bs)) (s, at2) = cc in
+      let q : ◌≡◌ {A = S × ℕ} (saves.restore h bs, at + length (table_fields h.level bs)) (s, at2) = cc in
       (bs, refl, sym (ap (λ (p : S × ℕ). p.1) q))
   found s (Err x) e = absurd (never x (s, at2) e)
 
-  missed : (x : Refusal) (t : Result (List (List ℕ)) Refusal) → then {B = S × ℕ} t (λ bs. Ok (d.restore h bs, at + length (table_fields h.level bs))) ≡ Err x → t ≡ Err x
-  missed x (Ok bs) e = absurd (never x (d.restore h bs, at + length (table_fields h.level bs)) (sym e))
+  missed : (x : Refusal) (t : Result (List (List ℕ)) Refusal) → then {B = S × ℕ} t (λ bs. Ok (saves.restore h bs, at + length (table_fields h.level bs))) ≡ Err x → t ≡ Err x
+  missed x (Ok bs) e = absurd (never x (saves.restore h bs, at + length (table_fields h.level bs)) (sym e))
   missed x (Err y) e = let q : y ≡ x = cc in ap Err q
 
-  pub tables_judged : (r : Result (Unit {0}) Refusal) → MatchResult r (λ _. (s : S) × (d.loads h input at ≡ Ok (s, at2))) (λ e. d.loads h input at ≡ Err e) → TablesRead d.tables h.level h.hashes input at at2 r
-  tables_judged (Ok u) (s, e) = found s (tables_at d.tables h.level h.hashes input at) (sym (keeps.from_fields h input at) ∙ e)
-  tables_judged (Err x) e = missed x (tables_at d.tables h.level h.hashes input at) (sym (keeps.from_fields h input at) ∙ e)
+  pub tables_judged : (r : Result (Unit {0}) Refusal) → MatchResult r (λ _. (s : S) × (d.loads h input at ≡ Ok (s, at2))) (λ e. d.loads h input at ≡ Err e) → TablesRead saves.tables h.level h.hashes input at at2 r
+  tables_judged (Ok u) (s, e) = found s (tables_at saves.tables h.level h.hashes input at) (sym (tabled.from_fields h input at) ∙ e)
+  tables_judged (Err x) e = missed x (tables_at saves.tables h.level h.hashes input at) (sym (tabled.from_fields h input at) ∙ e)
 
 -- the tables of a make that is known
 module _ (one two mine : List Table) (own make : ℕ) where

@@ -3,7 +3,7 @@ use Rattle.std.specs.Prelude.{◌≡◌, ℕ, ◌^◌, ◌<◌, ◌≤◌, true,
 use Rattle.passes.specs.Bytes.{bytes}
 use Rattle.filters.specs.declared.Hashing.{Hashing}
 use Rattle.levels.specs.Rows.{Row, LawfulRows}
-use Rattle.levels.specs.Deciders.{Table, Decides, table_fields}
+use Rattle.levels.specs.Deciders.{Table, Decides, table_fields, Saves}
 use Rattle.publications.specs.declared.PassKind.TheVariants.{Tag}
 use Rattle.publications.specs.declared.CoverageRow.{CoverageRow}
 use Rattle.publications.specs.declared.Publication.{Publication}
@@ -84,8 +84,8 @@ pub record LayoutLaw (makes : Makes) : Type 0 where
   pub in_bytes : (p : Content) → Allowed makes p → bytes (writes p) ≡ true
 
 -- What is written of levels that were built.
-pub record WriterLaw {S : Type 0} (d : Decides S) : Type 0 where
+pub record WriterLaw {S : Type 0} (d : Decides S) (saves : Saves S) : Type 0 where
   -- every reader that knows their make reads it back
-  pub read_back : (at : Hashing) (sizes : List ℕ) (register : List Row) (s : S) → LawfulRows register → d.build at sizes register ≡ Ok s → (makes : Makes) (h : PublicationHead) (rs : List CoverageRow) → AllowedHead makes h d.tables → h.hashes ≡ at.hashes → AllowedCoverage rs → reads makes (published h rs (d.saved 1 s)) ≡ Ok (record { head = h; coverage = rs; tables = d.bodies s })
+  pub read_back : (at : Hashing) (sizes : List ℕ) (register : List Row) (s : S) → LawfulRows register → d.build at sizes register ≡ Ok s → (makes : Makes) (h : PublicationHead) (rs : List CoverageRow) → AllowedHead makes h saves.tables → h.hashes ≡ at.hashes → AllowedCoverage rs → reads makes (published h rs (d.saved 1 s)) ≡ Ok (record { head = h; coverage = rs; tables = saves.bodies s })
   -- with six levels over the end it has at most 14,315 bytes
   pub longest : (at : Hashing) (sizes : List ℕ) (register : List Row) (s : S) → LawfulRows register → d.build at sizes register ≡ Ok s → length sizes ≡ 6 → (h : PublicationHead) (rs : List CoverageRow) → length rs ≤ 64 → length (published h rs (d.saved 1 s)) ≤ 14315

@@ -11,7 +11,7 @@ use Rattle.publication_layout.proofs.reader.read_publication.Goals as goal
 
 pub returns-in_err-head : goal.returns-in_err-head
 returns-in_err-head g c =
-    let makes = known_makes g.A.Decider.decider.tables g.B.Decider.decider.tables g.G.Decider.decider.tables c.args.own in
+    let makes = known_makes g.A.Decider.saves.tables g.B.Decider.saves.tables g.G.Decider.saves.tables c.args.own in
     let p = err_from_is_err_and c.from_residual.result c.from_residual.ensures.1 in
     let input = c.args.input.now in
     let new = c.new-reader.ensures in
@@ -22,7 +22,7 @@ returns-in_err-head g c =
 
 pub returns-in_err-coverage : goal.returns-in_err-coverage
 returns-in_err-coverage g c =
-    let makes = known_makes g.A.Decider.decider.tables g.B.Decider.decider.tables g.G.Decider.decider.tables c.args.own in
+    let makes = known_makes g.A.Decider.saves.tables g.B.Decider.saves.tables g.G.Decider.saves.tables c.args.own in
     let p = err_from_is_err_and c.from_residual-in_err-coverage.result c.from_residual-in_err-coverage.ensures.1 in
     let input = c.args.input.now in
     let new = c.new-reader.ensures in
@@ -39,7 +39,7 @@ returns-in_err-coverage g c =
 
 pub judge_tables-requires : goal.judge_tables-requires
 judge_tables-requires g c =
-    let makes = known_makes g.A.Decider.decider.tables g.B.Decider.decider.tables g.G.Decider.decider.tables c.args.own in
+    let makes = known_makes g.A.Decider.saves.tables g.B.Decider.saves.tables g.G.Decider.saves.tables c.args.own in
     let input = c.args.input.now in
     let low : (i : ℕ) → get_or input i 0 < 256 = λ i. search rules in
     let new = c.new-reader.ensures in
@@ -50,7 +50,7 @@ judge_tables-requires g c =
 
 pub returns-in_err-judge_tables : goal.returns-in_err-judge_tables
 returns-in_err-judge_tables g c =
-    let makes = known_makes g.A.Decider.decider.tables g.B.Decider.decider.tables g.G.Decider.decider.tables c.args.own in
+    let makes = known_makes g.A.Decider.saves.tables g.B.Decider.saves.tables g.G.Decider.saves.tables c.args.own in
     let p = err_from_is_err_and c.from_residual-in_err-judge_tables.result c.from_residual-in_err-judge_tables.ensures.1 in
     let input = c.args.input.now in
     let new = c.new-reader.ensures in
@@ -74,7 +74,7 @@ returns-in_err-judge_tables g c =
 
 pub returns-in_err-check : goal.returns-in_err-check
 returns-in_err-check g c =
-    let makes = known_makes g.A.Decider.decider.tables g.B.Decider.decider.tables g.G.Decider.decider.tables c.args.own in
+    let makes = known_makes g.A.Decider.saves.tables g.B.Decider.saves.tables g.G.Decider.saves.tables c.args.own in
     let p = err_from_is_err_and c.from_residual-in_err-check.result c.from_residual-in_err-check.ensures.1 in
     let input = c.args.input.now in
     let new = c.new-reader.ensures in
@@ -105,7 +105,7 @@ returns-in_err-check g c =
 
 pub returns : goal.returns
 returns g c =
-    let makes = known_makes g.A.Decider.decider.tables g.B.Decider.decider.tables g.G.Decider.decider.tables c.args.own in
+    let makes = known_makes g.A.Decider.saves.tables g.B.Decider.saves.tables g.G.Decider.saves.tables c.args.own in
     let input = c.args.input.now in
     let new = c.new-reader.ensures in
     let r0 = c.new-reader.result in
