@@ -112,10 +112,10 @@ module _ (mate : ℕ → ℕ → ℕ) (b : ℕ) (low : (i f : ℕ) → i < b →
   rested t i f j g u long l some e k =
       let r = into_some t (4 * i) 4 f u e in
       let c = 4 * i + r.0 in
-      let zero-there : slice_index_or t c 0 ≡ g → ⊥ = λ (z : slice_index_or t c 0 ≡ g). some (sym z ∙ r.2) in
+      let zero_there : slice_index_or t c 0 ≡ g → ⊥ = λ (z : slice_index_or t c 0 ≡ g). some (sym z ∙ r.2) in
       rw r.3
       (⊎_elim
-      (λ stood. ⊎_elim (λ s. inl (stands_set t j g c f zero-there s)) (λ s. inr (stands_set t (mate j g) g c f zero-there s)) stood)
+      (λ stood. ⊎_elim (λ s. inl (stands_set t j g c f zero_there s)) (λ s. inr (stands_set t (mate j g) g c f zero_there s)) stood)
       (λ carried.
       let here : Stands (slice_set t c f) i f = stands_new t i f r.0 r.1 (omega (arith, r.1)) in
       let here' : Stands (slice_set t c f) i g = subst (λ (x : ℕ). Stands (slice_set t c f) i x) carried.0 here in
@@ -184,11 +184,11 @@ module _ (mate : ℕ → ℕ → ℕ) (b : ℕ) (low : (i f : ℕ) → i < b →
   sized_kicked n (suc k) m i f t u l s e =
       let c = 4 * i + m % 4 in
       let g = slice_index_or t c 0 in
-      let g-low = bytes_at t c s.1 in
+      let g_low = bytes_at t c s.1 in
       let s' = sized_set n t c f l s in
       ⊎_elim
-      (λ p. sized_into n (slice_set t c f) u (4 * mate i g) 4 g g-low s' p)
-      (λ p. sized_kicked n k (m + 1) (mate i g) g (slice_set t c f) u g-low s' p)
+      (λ p. sized_into n (slice_set t c f) u (4 * mate i g) 4 g g_low s' p)
+      (λ p. sized_kicked n k (m + 1) (mate i g) g (slice_set t c f) u g_low s' p)
       (some_of (put_into (slice_set t c f) (4 * mate i g) 4 g) (kicked mate k (m + 1) (mate i g) g (slice_set t c f)) u e)
 
   pub stored_sized : (n : ℕ) (t u : List ℕ) (i f : ℕ) → f < 256 → Sized n t → stored mate t i f ≡ Some u → Sized n u

@@ -13,8 +13,8 @@ pub seal_wrote : (front out out1 : List ℕ) (n : ℕ) → Wrote front out out1 
 seal_wrote front out out1 n w fits =
     let yes_way : Option ℕ × List ℕ = (Some (length (checked front)), checked front ++ drop (length (checked front)) out) in
     let no_way : Option ℕ × List ℕ = (None, out) in
-    let yes-here : Option ℕ × List ℕ = (Some (n + 7), checked (take n out1) ++ drop (n + 7) out1) in
-    let no-here : Option ℕ × List ℕ = (None, out1) in
+    let yes_here : Option ℕ × List ℕ = (Some (n + 7), checked (take n out1) ++ drop (n + 7) out1) in
+    let no_here : Option ℕ × List ℕ = (None, out1) in
     let size = w.size in
     let seven = check_length front in
     let whole = length-append front (check_field front) in
@@ -28,7 +28,7 @@ seal_wrote front out out1 n w fits =
     let rest : drop (n + 7) out1 ≡ drop (length (checked front)) out =
     sym (drop-drop 7 n out1) ∙ ap (drop 7) past ∙ drop-drop 7 (length front) out ∙ ap (λ (k : ℕ). drop k out) (flip ∙ up)
     in
-    cond-true (leb (n + 7) (length out1)) yes-here no-here (le-leb (n + 7) (length out1) (omega arith))
+    cond-true (leb (n + 7) (length out1)) yes_here no_here (le-leb (n + 7) (length out1) (omega arith))
     ∙ ap (λ (t : List ℕ). (Some (n + 7), checked t ++ drop (n + 7) out1)) before
     ∙ ap (λ (t : List ℕ). (Some (n + 7), checked front ++ t)) rest
     ∙ ap (λ (k : ℕ). (Some k, checked front ++ drop (length (checked front)) out)) total

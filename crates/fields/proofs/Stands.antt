@@ -52,9 +52,9 @@ module _ (due low high : ℕ) (input : List ℕ) (at : ℕ) (b : List ℕ) (real
       let body = q.is in
       let rest = drop h.len (drop (at + 3) input) in
       let behind : drop (at + 3) input ≡ b ++ rest = sym (take-append-drop h.len (drop (at + 3) input)) ∙ ap (λ (t : List ℕ). t ++ rest) (sym body) in
-      let tag-there = p.found in
-      let field-there : drop at input ≡ field due b ++ rest = cc in
-      let whole : input ≡ (take at input ++ field due b) ++ rest = sym (take-append-drop at input) ∙ ap (λ (t : List ℕ). take at input ++ t) field-there ∙ sym (append_assoc (take at input) (field due b) rest) in
+      let tag_there = p.found in
+      let field_there : drop at input ≡ field due b ++ rest = cc in
+      let whole : input ≡ (take at input ++ field due b) ++ rest = sym (take-append-drop at input) ∙ ap (λ (t : List ℕ). take at input ++ t) field_there ∙ sym (append_assoc (take at input) (field due b) rest) in
       let front : length (take at input) ≡ at = length-take-le at input (omega arith) in
       let all : length (take at input ++ field due b) ≡ at + (3 + n) = length-append (take at input) (field due b) ∙ ap (λ (k : ℕ). k + length (field due b)) front ∙ ap (λ (k : ℕ). at + k) (length_field due b) in
       record {

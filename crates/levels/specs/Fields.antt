@@ -36,7 +36,7 @@ module _ (front body rest : List ℕ) (tag : ℕ) (short : length body < 65536) 
   table_read k hashes e = table_back (table_of k) hashes (fitting k hashes body e).measured e
 
 -- a table that was read
-pub record Read_table (t : Table) (tag hashes : ℕ) (input : List ℕ) (at : ℕ) (b : List ℕ) : Type 0 where
+pub record ReadTable (t : Table) (tag hashes : ℕ) (input : List ℕ) (at : ℕ) (b : List ℕ) : Type 0 where
   pub measured : t.measures (length b) ≡ true
   pub well : t.judged hashes b ≡ None
   pub stands : Stands tag 0 65535 input at b
@@ -46,7 +46,7 @@ module _ (t : Table) (tag hashes : ℕ) (input : List ℕ) (at : ℕ) (b : List 
   judged_is c None q e = let s : c ≡ b = cc in (s, ap (t.judged hashes) (sym s) ∙ sym q)
   judged_is c (Some r) q e = absurd (never (refused r tag at) b e)
 
-  pub table_stands : table_in t tag hashes input at ≡ Ok b → Read_table t tag hashes input at b
+  pub table_stands : table_in t tag hashes input at ≡ Ok b → ReadTable t tag hashes input at b
   unfolding table_in
   table_stands e =
       let go : Header → Result (List ℕ) Refusal = λ h. cond (t.measures h.len) (then (body_at input (at + 3) h) (λ c. judged_in tag at c (t.judged hashes c))) (Err (refused BadLength tag at)) in

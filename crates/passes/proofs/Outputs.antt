@@ -6,16 +6,16 @@ use Rattle.std.proofs.lemmas.Bool.{cases_Bool, cond-true, cond-false, le-leb, le
 use Rattle.passes.specs.Outputs.{written_to, joined}
 
 -- what a writer that wrote something did
-pub record Wrote (bs out now-out : List ℕ) (n : ℕ) : Type 0 where
+pub record Wrote (bs out now_out : List ℕ) (n : ℕ) : Type 0 where
   pub size : n ≡ length bs
   pub room : length bs ≤ length out
-  pub bytes : now-out ≡ bs ++ drop (length bs) out
+  pub bytes : now_out ≡ bs ++ drop (length bs) out
 
 none_some : (n : ℕ) → ◌≡◌ {A = Option ℕ} (Some n) None → ⊥
 none_some n e = let z : ◌≡◌ {A = ℕ} 0 1 = cc in omega arith
 
-pub wrote : (bs out now-out : List ℕ) (n : ℕ) → ◌≡◌ {A = Option ℕ × List ℕ} (Some n, now-out) (written_to bs out) → Wrote bs out now-out n
-wrote bs out now-out n e =
+pub wrote : (bs out now_out : List ℕ) (n : ℕ) → ◌≡◌ {A = Option ℕ × List ℕ} (Some n, now_out) (written_to bs out) → Wrote bs out now_out n
+wrote bs out now_out n e =
     let yes_way : Option ℕ × List ℕ = (Some (length bs), bs ++ drop (length bs) out) in
     let no_way : Option ℕ × List ℕ = (None, out) in
     let fst : Option ℕ × List ℕ → Option ℕ = λ p. p.0 in
@@ -28,25 +28,25 @@ wrote bs out now-out n e =
     (λ (t : leb (length bs) (length out) ≡ false). absurd (none_some n (ap fst (e ∙ cond-false (leb (length bs) (length out)) yes_way no_way t))))
     (cases_Bool (leb (length bs) (length out)))
 
-pub wrote_to : (bs out now-out : List ℕ) (n : ℕ) → Wrote bs out now-out n → ◌≡◌ {A = Option ℕ × List ℕ} (Some n, now-out) (written_to bs out)
-wrote_to bs out now-out n w =
+pub wrote_to : (bs out now_out : List ℕ) (n : ℕ) → Wrote bs out now_out n → ◌≡◌ {A = Option ℕ × List ℕ} (Some n, now_out) (written_to bs out)
+wrote_to bs out now_out n w =
     let yes_way : Option ℕ × List ℕ = (Some (length bs), bs ++ drop (length bs) out) in
     let no_way : Option ℕ × List ℕ = (None, out) in
     let a = w.size in
     let b = w.bytes in
-    (let z : ◌≡◌ {A = Option ℕ × List ℕ} (Some n, now-out) yes_way = cc in z) ∙ sym (cond-true (leb (length bs) (length out)) yes_way no_way (le-leb (length bs) (length out) w.room))
+    (let z : ◌≡◌ {A = Option ℕ × List ℕ} (Some n, now_out) yes_way = cc in z) ∙ sym (cond-true (leb (length bs) (length out)) yes_way no_way (le-leb (length bs) (length out) w.room))
 
 -- a writer whose bytes fit
-pub wrote_fits : (bs out now-out : List ℕ) (res : Option ℕ) → ◌≡◌ {A = Option ℕ × List ℕ} (res, now-out) (written_to bs out) → length bs ≤ length out → Wrote bs out now-out (length bs)
-wrote_fits bs out now-out res e l =
+pub wrote_fits : (bs out now_out : List ℕ) (res : Option ℕ) → ◌≡◌ {A = Option ℕ × List ℕ} (res, now_out) (written_to bs out) → length bs ≤ length out → Wrote bs out now_out (length bs)
+wrote_fits bs out now_out res e l =
     let yes_way : Option ℕ × List ℕ = (Some (length bs), bs ++ drop (length bs) out) in
     let no_way : Option ℕ × List ℕ = (None, out) in
     let snd : Option ℕ × List ℕ → List ℕ = λ p. p.1 in
     record { size = refl; room = l; bytes = ap snd (e ∙ cond-true (leb (length bs) (length out)) yes_way no_way (le-leb (length bs) (length out) l)) }
 
 -- a writer that wrote nothing
-pub wrote_none : (bs out now-out : List ℕ) → ◌≡◌ {A = Option ℕ × List ℕ} (None, now-out) (written_to bs out) → length out < length bs
-wrote_none bs out now-out e =
+pub wrote_none : (bs out now_out : List ℕ) → ◌≡◌ {A = Option ℕ × List ℕ} (None, now_out) (written_to bs out) → length out < length bs
+wrote_none bs out now_out e =
     let yes_way : Option ℕ × List ℕ = (Some (length bs), bs ++ drop (length bs) out) in
     let no_way : Option ℕ × List ℕ = (None, out) in
     let fst : Option ℕ × List ℕ → Option ℕ = λ p. p.0 in

@@ -92,11 +92,11 @@ module _ (xs : List ℕ) (low : (i : ℕ) → get_or xs i 0 < 256) where
       let b = issuer_back i e in
       let r = s ∙ take_rest xs 3 in
       let size : length serial ≡ length xs - 3 = ap length r ∙ length-drop 3 xs in
-      let low-serial : (j : ℕ) → get_or serial j 0 < 256 = λ j. rw r (rw (get_or-drop 3 xs j 0) (low (3 + j))) in
+      let low_serial : (j : ℕ) → get_or serial j 0 < 256 = λ j. rw r (rw (get_or-drop 3 xs j 0) (low (3 + j))) in
       let d0 = drop_more xs 0 0 (omega arith) in
       let d1 = drop_more xs 1 0 (omega arith) in
       let d2 = drop_more xs 2 0 (omega arith) in
-      let p = chip_plain i serial low-serial (omega arith) (omega arith) in
+      let p = chip_plain i serial low_serial (omega arith) (omega arith) in
       cc
 
 pub tag_length : (xs : List ℕ) → Lawful xs → get_or xs 0 0 ≡ 84 → length xs ≡ 11

@@ -1,7 +1,6 @@
 ghost use Rattle.std.specs.Prelude.{◌≡◌, ℕ, List, length, replicate, Ok, Err, MatchResult};
 ghost use Rattle.levels.specs.Rows.{mark_of, rows, listed};
 ghost use Rattle.piles.specs.Tries.{retried, built_in, Outcome};
-ghost use Rattle.std.proofs.Common.{rules};
 
 use fields::reader::Reader;
 use filters::Hashing;

@@ -272,8 +272,8 @@ rows_stand b rs real low high seven e =
             let p = parts_of rs i (omega arith) f.each in
             let q = parts_of rs j m f.each in
             let yes = ap (λ (x : List ℕ). same_key x (7 * i) (7 * j)) (sym same) ∙ key_same (rows_bytes rs) (7 * i) (7 * j) (row_of rs i) (row_of rs j) p q kind issuer in
-            let zero-plus : 0 + j ≡ j = omega arith in
-            let off = ap (λ (k : ℕ). repeats b k (7 * k)) (sym zero-plus) ∙ f.new j (omega arith) in
+            let zero_plus : 0 + j ≡ j = omega arith in
+            let off = ap (λ (k : ℕ). repeats b k (7 * k)) (sym zero_plus) ∙ f.new j (omega arith) in
             both_ways _ (each_differs b j i (7 * j) off l) yes;
       },
       same,

@@ -2,5 +2,5 @@
 #![tactic(auto)]
 
 pub mod judging;
-mod parts;
+pub mod parts;
 pub mod reader;

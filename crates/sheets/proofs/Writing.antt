@@ -75,11 +75,11 @@ module _ (ws : List SheetWord) (i : ℕ) (d : SheetWord) (l : i < length ws) whe
     still_fits m =
         let z = left_less in
         let rest = 17 + length (spelled (drop (i + 1) ws)) in
-        let now-left = left - (4 + length (get_or ws i d).form.now) in
+        let now_left = left - (4 + length (get_or ws i d).form.now) in
         ⊎_elim
-        (λ (t : leb rest now-left ≡ true). let p = leb-true rest now-left t in t ∙ sym (le-leb (17 + length (spelled (drop i ws))) left (omega arith)) ∙ j)
-        (λ (t : leb rest now-left ≡ false). let p = leb-false rest now-left t in t ∙ sym (lt-leb (17 + length (spelled (drop i ws))) left (omega arith)) ∙ j)
-        (cases_Bool (leb rest now-left))
+        (λ (t : leb rest now_left ≡ true). let p = leb-true rest now_left t in t ∙ sym (le-leb (17 + length (spelled (drop i ws))) left (omega arith)) ∙ j)
+        (λ (t : leb rest now_left ≡ false). let p = leb-false rest now_left t in t ∙ sym (lt-leb (17 + length (spelled (drop i ws))) left (omega arith)) ∙ j)
+        (cases_Bool (leb rest now_left))
 
 -- the whole length, under any head
 pub under_head : (h : SheetHead) (ws : List SheetWord) (room : ℕ) → leb (17 + length (spelled ws)) room ≡ leb (length (writes (sheet_of h ws))) room

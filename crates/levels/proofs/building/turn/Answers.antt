@@ -15,13 +15,13 @@ loop-i-preserved g c =
     let i = c.loop-i.i in
     let long : i < length ns = omega (arith, c.loop-i.auto.marks, c.requires, c.loop-i-test.true) in
     let P : ℕ → ℕ → Type 0 = λ j y. (d : Entry g.row.I.Denot) → y ≡ remark k v (row f (get_or es j d) (get_or ms j 0)) in
-    let now-here : P i c.next_mark.result =
+    let now_here : P i c.next_mark.result =
     λ d.
     c.next_mark.ensures
     ∙ ap (λ (m : ℕ). remark k v (row f (get_or es i c.index-list-i.result) m)) (c.loop-i.invariant.1 i (omega arith))
     ∙ ap (λ (e : Entry g.row.I.Denot). remark k v (row f e (get_or ms i 0))) (get_d_any es i c.index-list-i.result d c.loop-i-test.true)
     in
-    let more = marks_more ns i c.next_mark.result P long (λ j l d. c.loop-i.invariant.0 j d l) now-here in
+    let more = marks_more ns i c.next_mark.result P long (λ j l d. c.loop-i.invariant.0 j d l) now_here in
     ((λ j d l. more j l d), (λ j l. let ne : j ≢ i = omega arith in rw get_or-set_other (c.loop-i.invariant.1 j (omega arith))))
 
 pub returns : goal.returns

@@ -16,6 +16,6 @@ returns g c =
     let first : Wrote three out out1 3 = record { size = refl; room = omega (arith, c.if-out-lt3.false); bytes = ap (λ (h : List ℕ). h ++ drop 3 out) head } in
     let left = behind three out out1 3 first in
     let second = wrote_fits saved (take (length out1 - 3) (drop 3 out1)) c.save.new.out c.save.result c.save.ensures (omega (arith, ap length left, length-drop 3 out, c.if-out-n.false, c.saved_len-n.ensures)) in
-    let now-out = put_mid 3 (length out1 - 3) out1 c.save.new.out in
-    let counted : ℕ → Option ℕ × List ℕ = λ k. (Some (3 + k), now-out) in
-    ap counted c.saved_len-n.ensures ∙ writes (three ++ saved) out now-out (3 + length saved) (chain three saved out out1 c.save.new.out 3 (length saved) first second)
+    let now_out = put_mid 3 (length out1 - 3) out1 c.save.new.out in
+    let counted : ℕ → Option ℕ × List ℕ = λ k. (Some (3 + k), now_out) in
+    ap counted c.saved_len-n.ensures ∙ writes (three ++ saved) out now_out (3 + length saved) (chain three saved out out1 c.save.new.out 3 (length saved) first second)

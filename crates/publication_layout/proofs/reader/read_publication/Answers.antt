@@ -32,9 +32,9 @@ returns-in_err-coverage g c =
     let head = c.in_ok-head.ensures in
     let a0 = new.1 in
     let a1 = head.verdict.1 in
-    let read-h = moved (head_at makes) r0.input.now input r0.at 0 (Ok h) new.0 a0 head.verdict.0 in
+    let read_h = moved (head_at makes) r0.input.now input r0.at 0 (Ok h) new.0 a0 head.verdict.0 in
     let got = c.in_err-coverage.ensures.verdict in
-    let e = stop_coverage makes input h read-h p.0 (moved (table_in coverage_judge 0x02 h.hashes) r1.input.now input r1.at 12 (Err p.0) (head.input ∙ new.0) (omega arith) (got ∙ ap Err (sym p.2))) in
+    let e = stop_coverage makes input h read_h p.0 (moved (table_in coverage_judge 0x02 h.hashes) r1.input.now input r1.at 12 (Err p.0) (head.input ∙ new.0) (omega arith) (got ∙ ap Err (sym p.2))) in
     record { value = rw p.1 e; meaning = refused_decides makes input c.from_residual-in_err-coverage.result p.0 p.1 e; law = layout_law makes }
 
 pub judge_tables-requires : goal.judge_tables-requires
@@ -64,12 +64,12 @@ returns-in_err-judge_tables g c =
     let a0 = new.1 in
     let a1 = head.verdict.1 in
     let a2 = cover.verdict.1 in
-    let read-h = moved (head_at makes) r0.input.now input r0.at 0 (Ok h) new.0 a0 head.verdict.0 in
-    let read-c = moved (table_in coverage_judge 0x02 h.hashes) r1.input.now input r1.at 12 (Ok rows) (head.input ∙ new.0) (omega arith) cover.verdict.0 in
+    let read_h = moved (head_at makes) r0.input.now input r0.at 0 (Ok h) new.0 a0 head.verdict.0 in
+    let read_c = moved (table_in coverage_judge 0x02 h.hashes) r1.input.now input r1.at 12 (Ok rows) (head.input ∙ new.0) (omega arith) cover.verdict.0 in
     let i2 = cover.input ∙ head.input ∙ new.0 in
     let at2 : r2.at ≡ 15 + length rows = omega arith in
     let got = c.in_err-judge_tables.ensures.verdict in
-    let e = stop_tables makes input h read-h rows read-c p.0 (moved (tables_at (known_tables (makes h.make)) 1 h.hashes) r2.input.now input r2.at (15 + length rows) (Err p.0) i2 at2 (got ∙ ap Err (sym p.2))) in
+    let e = stop_tables makes input h read_h rows read_c p.0 (moved (tables_at (known_tables (makes h.make)) 1 h.hashes) r2.input.now input r2.at (15 + length rows) (Err p.0) i2 at2 (got ∙ ap Err (sym p.2))) in
     record { value = rw p.1 e; meaning = refused_decides makes input c.from_residual-in_err-judge_tables.result p.0 p.1 e; law = layout_law makes }
 
 pub returns-in_err-check : goal.returns-in_err-check
@@ -88,19 +88,19 @@ returns-in_err-check g c =
     let a0 = new.1 in
     let a1 = head.verdict.1 in
     let a2 = cover.verdict.1 in
-    let read-h = moved (head_at makes) r0.input.now input r0.at 0 (Ok h) new.0 a0 head.verdict.0 in
-    let read-c = moved (table_in coverage_judge 0x02 h.hashes) r1.input.now input r1.at 12 (Ok rows) (head.input ∙ new.0) (omega arith) cover.verdict.0 in
+    let read_h = moved (head_at makes) r0.input.now input r0.at 0 (Ok h) new.0 a0 head.verdict.0 in
+    let read_c = moved (table_in coverage_judge 0x02 h.hashes) r1.input.now input r1.at 12 (Ok rows) (head.input ∙ new.0) (omega arith) cover.verdict.0 in
     let i2 = cover.input ∙ head.input ∙ new.0 in
     let at2 : r2.at ≡ 15 + length rows = omega arith in
     let r3 = c.judge_tables.new.reader in
     let tables = c.in_ok-judge_tables.ensures in
     let bs = tables.verdict.0 in
-    let read-t = moved (tables_at (known_tables (makes h.make)) 1 h.hashes) r2.input.now input r2.at (15 + length rows) (Ok bs) i2 at2 tables.verdict.1 in
+    let read_t = moved (tables_at (known_tables (makes h.make)) 1 h.hashes) r2.input.now input r2.at (15 + length rows) (Ok bs) i2 at2 tables.verdict.1 in
     let a3 = tables.verdict.2 in
     let i3 = tables.input ∙ i2 in
     let at3 : r3.at ≡ 15 + length rows + length (table_fields 1 bs) = omega arith in
     let got = c.in_err-check.ensures.verdict in
-    let e = stop_check makes input h read-h rows read-c bs read-t p.0 (moved check_at r3.input.now input r3.at (15 + length rows + length (table_fields 1 bs)) (Err p.0) i3 at3 (got ∙ ap Err (sym p.2))) in
+    let e = stop_check makes input h read_h rows read_c bs read_t p.0 (moved check_at r3.input.now input r3.at (15 + length rows + length (table_fields 1 bs)) (Err p.0) i3 at3 (got ∙ ap Err (sym p.2))) in
     record { value = rw p.1 e; meaning = refused_decides makes input c.from_residual-in_err-check.result p.0 p.1 e; law = layout_law makes }
 
 pub returns : goal.returns
@@ -118,23 +118,23 @@ returns g c =
     let a0 = new.1 in
     let a1 = head.verdict.1 in
     let a2 = cover.verdict.1 in
-    let read-h = moved (head_at makes) r0.input.now input r0.at 0 (Ok h) new.0 a0 head.verdict.0 in
-    let read-c = moved (table_in coverage_judge 0x02 h.hashes) r1.input.now input r1.at 12 (Ok rows) (head.input ∙ new.0) (omega arith) cover.verdict.0 in
+    let read_h = moved (head_at makes) r0.input.now input r0.at 0 (Ok h) new.0 a0 head.verdict.0 in
+    let read_c = moved (table_in coverage_judge 0x02 h.hashes) r1.input.now input r1.at 12 (Ok rows) (head.input ∙ new.0) (omega arith) cover.verdict.0 in
     let i2 = cover.input ∙ head.input ∙ new.0 in
     let at2 : r2.at ≡ 15 + length rows = omega arith in
     let r3 = c.judge_tables.new.reader in
     let tables = c.in_ok-judge_tables.ensures in
     let bs = tables.verdict.0 in
-    let read-t = moved (tables_at (known_tables (makes h.make)) 1 h.hashes) r2.input.now input r2.at (15 + length rows) (Ok bs) i2 at2 tables.verdict.1 in
+    let read_t = moved (tables_at (known_tables (makes h.make)) 1 h.hashes) r2.input.now input r2.at (15 + length rows) (Ok bs) i2 at2 tables.verdict.1 in
     let a3 = tables.verdict.2 in
     let i3 = tables.input ∙ i2 in
     let at3 : r3.at ≡ 15 + length rows + length (table_fields 1 bs) = omega arith in
     let low : (i : ℕ) → get_or input i 0 < 256 = λ i. search rules in
     let real = bytes_from input low in
     let end = c.in_ok-check.ensures in
-    let read-e = moved check_at r3.input.now input r3.at (15 + length rows + length (table_fields 1 bs)) (Ok tt) i3 at3 end.verdict.0 in
-    let e = all_read makes input h read-h rows read-c bs read-t tt read-e in
-    let parts = reading makes input real h read-h rows read-c bs read-t tt read-e in
+    let read_e = moved check_at r3.input.now input r3.at (15 + length rows + length (table_fields 1 bs)) (Ok tt) i3 at3 end.verdict.0 in
+    let e = all_read makes input h read_h rows read_c bs read_t tt read_e in
+    let parts = reading makes input real h read_h rows read_c bs read_t tt read_e in
     record {
       value = record {
         content = record { head = h; coverage = unsaid (rows_in rows); tables = bs };
