@@ -5,4 +5,5 @@ pub mod Filters
 pub mod Held
 pub mod Passes
 pub mod Registers
+pub mod Sources
 pub mod Spans

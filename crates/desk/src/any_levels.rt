@@ -3,6 +3,8 @@ ghost use Rattle.std.specs.Prelude.{◌≡◌, ℕ, IfOk, Ok, box_value};
 ghost use Rattle.levels.specs.Rows.{listed};
 ghost use Rattle.piles.specs.Tries.{built_in};
 ghost use Rattle.desk.specs.Passes.{pass_form};
+ghost use Rattle.desk.specs.Sources.{ComesOf};
+ghost use Rattle.desk.specs.declared.any_levels.AnyLevels.TheVariants.{AllBloom, CuckooFirst};
 
 use crate::buffers::LONGEST;
 use crate::faults::Fault;
@@ -10,16 +12,16 @@ use crate::pass::Pass;
 use crate::plans::Plan;
 use bloom::table::Bloom;
 use cuckoo::table::Cuckoo;
-use exact::table::ExactList;
 use filters::{Filter, Hashing};
 use levels::decider::Decider;
 use levels::{Entry, Side};
-use piles::pile::{Six, load_fields};
+use makes::BloomBelow;
+use piles::pile::load_fields;
 use piles::retry::Retry;
 use std::alloc::Global;
 
 /// Six levels, the first of some kind and the others Bloom, over an exact end, and the retry layer above.
-pub type Make<F> = Retry<Six<F, Bloom, Bloom, Bloom, Bloom, Bloom, ExactList>>;
+pub type Make<F> = Retry<BloomBelow<F>>;
 
 /// Levels of some make.
 #[derive(Drop)]
@@ -95,27 +97,48 @@ fn saved<D: Decider>(heap: Global, levels: &D) -> Result<Vec<u8>, Fault>
     Ok(bytes)
 }
 
+/// New levels from a source, with the salt of level 1.
+fn sourced<D: Decider + Drop>(
+    heap: Global,
+    source: Source<'_>,
+) -> Result<(Box<Retry<D>>, u16), Fault>
+    ensures { IfOk result (λ p. ComesOf D.Decider.decider source.entry (D.Decider.state (box_value p.0).below) p.1) }
+{
+    match source {
+        Source::Register { plan, list, room } => built(heap, &plan, list, room),
+        Source::Fields { hashing, input } => {
+            let (levels, _) = loaded(heap, hashing, input)?;
+            Ok((levels, hashing.salt))
+        }
+    }
+}
+
 /// New levels from a source, with the salt of level 1 and the fields that they save.
 fn fresh<D: Decider + Drop>(
     heap: Global,
     source: Source<'_>,
 ) -> Result<(Box<Retry<D>>, u16, Vec<u8>), Fault>
-    ensures { IfOk result (λ p. p.2.items ≡ D.Decider.decider.saved 1 (D.Decider.state (box_value p.0).below)) }
+    ensures sourced { IfOk result (λ p. ComesOf D.Decider.decider source.entry (D.Decider.state (box_value p.0).below) p.1) }
+    ensures saved { IfOk result (λ p. p.2.items ≡ D.Decider.decider.saved 1 (D.Decider.state (box_value p.0).below)) }
 {
-    let (levels, salt) = match source {
-        Source::Register { plan, list, room } => built(heap, &plan, list, room)?,
-        Source::Fields { hashing, input } => {
-            let (levels, _) = loaded(heap, hashing, input)?;
-            (levels, hashing.salt)
-        }
-    };
+    let (levels, salt) = sourced(heap, source)?;
     let fields = saved(heap, &*levels)?;
     Ok((levels, salt, fields))
 }
 
 impl Levels {
     /// New levels of a make.
-    pub(crate) fn new(heap: Global, make: u8, source: Source<'_>) -> Result<Levels, Fault> {
+    pub(crate) fn new(heap: Global, make: u8, source: Source<'_>) -> Result<Levels, Fault>
+        ensures make { IfOk result (λ l. l.make ≡ make) }
+        ensures sourced { IfOk result (λ l. elim l.any [
+          | AllBloom b ↦ (make ≡ 1) × ComesOf ⟦<BloomBelow<Bloom> as Decider>⟧.decider source.entry (⟦<BloomBelow<Bloom> as Decider>⟧.state (box_value b).below) l.salt
+          | CuckooFirst b ↦ (make ≡ 2) × ComesOf ⟦<BloomBelow<Cuckoo> as Decider>⟧.decider source.entry (⟦<BloomBelow<Cuckoo> as Decider>⟧.state (box_value b).below) l.salt
+        ]) }
+        ensures saved { IfOk result (λ l. elim l.any [
+          | AllBloom b ↦ l.fields.items ≡ ⟦<BloomBelow<Bloom> as Decider>⟧.decider.saved 1 (⟦<BloomBelow<Bloom> as Decider>⟧.state (box_value b).below)
+          | CuckooFirst b ↦ l.fields.items ≡ ⟦<BloomBelow<Cuckoo> as Decider>⟧.decider.saved 1 (⟦<BloomBelow<Cuckoo> as Decider>⟧.state (box_value b).below)
+        ]) }
+    {
         let (any, salt, fields) = match make {
             1 => {
                 let (levels, salt, fields) = fresh(heap, source)?;
@@ -136,7 +159,12 @@ impl Levels {
     }
 
     /// The side of a pass, and the source of the decision.
-    pub(crate) fn ask(&self, pass: &Pass) -> (Side, u8) {
+    pub(crate) fn ask(&self, pass: &Pass) -> (Side, u8)
+        ensures { elim self.now.any [
+          | AllBloom b ↦ (result.0, result.1) ≡ ⟦<BloomBelow<Bloom> as Decider>⟧.decider.decides (⟦<BloomBelow<Bloom> as Decider>⟧.state (box_value b).below) (pass_form pass.now)
+          | CuckooFirst b ↦ (result.0, result.1) ≡ ⟦<BloomBelow<Cuckoo> as Decider>⟧.decider.decides (⟦<BloomBelow<Cuckoo> as Decider>⟧.state (box_value b).below) (pass_form pass.now)
+        ] }
+    {
         match &self.any {
             AnyLevels::AllBloom(levels) => levels.ask(pass),
             AnyLevels::CuckooFirst(levels) => levels.ask(pass),
