@@ -117,10 +117,10 @@ impl Filter for Bloom {
 
     fn judge(hashes: u8, body: &[u8]) -> Result<(), Refusal> {
         if hashes < 1 || hashes > 8 {
-            return Err(Refusal::plain(Reason::BadSetting));
+            return Err(Reason::BadSetting.into());
         }
         if body.len() < 1 || body.len() > 2048 {
-            return Err(Refusal::plain(Reason::BadLength));
+            return Err(Reason::BadLength.into());
         }
         Ok(())
     }
@@ -134,7 +134,7 @@ impl Filter for Bloom {
 
     fn clear(&mut self, settings: Settings) -> Result<(), Refusal> {
         if !allowed(settings.size, settings.hashing.hashes) {
-            return Err(Refusal::plain(Reason::BadSetting));
+            return Err(Reason::BadSetting.into());
         }
         *self = Bloom::emptied(settings);
         Ok(())

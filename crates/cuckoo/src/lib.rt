@@ -104,10 +104,10 @@ impl Filter for Cuckoo {
 
     fn judge(hashes: u8, body: &[u8]) -> Result<(), Refusal> {
         if hashes < 1 || hashes > 8 {
-            return Err(Refusal::plain(Reason::BadSetting));
+            return Err(Reason::BadSetting.into());
         }
         if !measures(body.len()) {
-            return Err(Refusal::plain(Reason::BadLength));
+            return Err(Reason::BadLength.into());
         }
         Ok(())
     }
@@ -121,7 +121,7 @@ impl Filter for Cuckoo {
 
     fn clear(&mut self, settings: Settings) -> Result<(), Refusal> {
         if !allowed(settings.size, settings.hashing.hashes) {
-            return Err(Refusal::plain(Reason::BadSetting));
+            return Err(Reason::BadSetting.into());
         }
         *self = Cuckoo::emptied(settings);
         Ok(())

@@ -87,10 +87,10 @@ impl Filter for ExactList {
 
     fn judge(hashes: u8, body: &[u8]) -> Result<(), Refusal> {
         if hashes < 1 || hashes > 8 {
-            return Err(Refusal::plain(Reason::BadSetting));
+            return Err(Reason::BadSetting.into());
         }
         if body.len() > 1536 {
-            return Err(Refusal::plain(Reason::BadLength));
+            return Err(Reason::BadLength.into());
         }
         judge_rows(body)
     }
@@ -104,7 +104,7 @@ impl Filter for ExactList {
 
     fn clear(&mut self, settings: Settings) -> Result<(), Refusal> {
         if !allowed(settings.size, settings.hashing.hashes) {
-            return Err(Refusal::plain(Reason::BadSetting));
+            return Err(Reason::BadSetting.into());
         }
         self.len = 0;
         self.count = 0;

@@ -48,10 +48,10 @@ pub fn judge_rows(body: &[u8]) -> Result<(), Refusal>
     let mut room: usize = 64;
     'rows: while let Some((form, rest)) = split_row(left) {
         if room == 0 || !is_whole(left) || !is_lawful(form) {
-            return Err(Refusal::plain(Reason::BadValue));
+            return Err(Reason::BadValue.into());
         }
         if !precedes(last, form) {
-            return Err(Refusal::plain(Reason::NotAscending));
+            return Err(Reason::NotAscending.into());
         }
         room -= 1;
         last = form;

@@ -48,7 +48,7 @@ impl<F: Exact> Decider for End<F> {
         marks: &mut [u8],
     ) -> Result<(), Refusal> {
         if sizes.len() != 0 {
-            return Err(Refusal::plain(Reason::BadSetting));
+            return Err(Reason::BadSetting.into());
         }
         begin(
             &mut self.filter,

@@ -52,11 +52,7 @@ impl<F: Filter, D: Decider> Decider for Level<F, D> {
             return (Side::Against, 1);
         }
         let (side, source) = self.below.ask(id);
-        let source = source.saturating_add(1);
-        match side {
-            Side::For => (Side::Against, source),
-            Side::Against => (Side::For, source),
-        }
+        (!side, source.saturating_add(1))
     }
 
     fn build<I: Identifier>(
@@ -67,7 +63,7 @@ impl<F: Filter, D: Decider> Decider for Level<F, D> {
         marks: &mut [u8],
     ) -> Result<(), Refusal> {
         let [size, rest @ ..] = sizes else {
-            return Err(Refusal::plain(Reason::BadSetting));
+            return Err(Reason::BadSetting.into());
         };
         begin(
             &mut self.filter,

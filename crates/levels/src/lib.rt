@@ -1,6 +1,11 @@
 //! Levels of filters over any decider, and the end below them.
 #![tactic(auto)]
 
+ghost use Rattle.std.specs.Prelude.{◌≡◌};
+ghost use Rattle.levels.specs.Deciders.{other};
+
+use std::ops::Not;
+
 mod building;
 pub mod decider;
 pub mod end;
@@ -8,10 +13,24 @@ pub mod level;
 mod tables;
 
 /// The side of an identifier in a decider.
-#[derive(Clone, Copy)]
+#[derive(Clone, Copy, PartialEq, Eq)]
 pub enum Side {
     For,
     Against,
+}
+
+/// The other side.
+impl Not for Side {
+    type Output = Side;
+
+    ghost not_gives = { λ side r. r ≡ other side };
+
+    fn not(self) -> Side {
+        match self {
+            Side::For => Side::Against,
+            Side::Against => Side::For,
+        }
+    }
 }
 
 /// An identifier with its side.

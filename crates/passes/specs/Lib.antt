@@ -1,5 +1,6 @@
 pub mod Bytes
 pub mod ByteLaws
+pub mod Kinds
 pub mod Forms
 pub mod Lawful
 pub mod Order

@@ -8,7 +8,9 @@ ghost use Rattle.passes.specs.Made.{serial_fits, first_chip, chip_of, filled};
 
 use crate::form::Form;
 use crate::identifier::Identifier;
+use crate::kind::PassKind;
 use refusals::{Reason, Refusal};
+use std::fmt;
 
 /// A stored chip pass. It lies in registers, so it is a plain record: n is read as a serial of 1 + n mod 20 bytes.
 #[derive(Clone, Copy)]
@@ -45,7 +47,7 @@ impl ChipPass {
     {
         let k = serial.len();
         if k < 1 || k > 20 {
-            return Err(Refusal::plain(Reason::BadSerial));
+            return Err(Reason::BadSerial.into());
         }
         *self = stored(issuer, serial);
         Ok(())
@@ -78,6 +80,14 @@ impl Identifier for ChipPass {
     }
 }
 
+impl fmt::Display for ChipPass {
+    fn fmt<W: fmt::Write>(&self, f: &mut fmt::Formatter<W>) -> fmt::Result {
+        let issuer = self.issuer;
+        let serial = self.serial_bytes();
+        write!(f, "{}", ChipRef { issuer, serial })
+    }
+}
+
 /// A chip pass whose serial is borrowed from a message.
 #[derive(Clone, Copy)]
 pub struct ChipRef<'a> {
@@ -92,7 +102,7 @@ impl<'a> ChipRef<'a> {
         ensures cases { MatchResult result (λ c. (c.issuer ≡ issuer) × (c.serial.now ≡ serial.now)) (λ e. e ≡ plain BadSerial) }
     {
         if serial.len() < 1 || serial.len() > 20 {
-            return Err(Refusal::plain(Reason::BadSerial));
+            return Err(Reason::BadSerial.into());
         }
         Ok(ChipRef { issuer, serial })
     }
@@ -108,6 +118,17 @@ impl<'a> Identifier for ChipRef<'a> {
     }
 }
 
+/// The serial in capital hexadecimal digits.
+impl fmt::Display for ChipRef<'_> {
+    fn fmt<W: fmt::Write>(&self, f: &mut fmt::Formatter<W>) -> fmt::Result {
+        write!(f, "{} {} ", PassKind::Chip, self.issuer)?;
+        for byte in self.serial {
+            write!(f, "{byte:02X}")?;
+        }
+        Ok(())
+    }
+}
+
 /// The written form of a chip pass.
 fn write_chip(issuer: u16, serial: &[u8]) -> Form
     ensures { spelled result ≡ chip_form issuer serial.now }
@@ -115,7 +136,7 @@ fn write_chip(issuer: u16, serial: &[u8]) -> Form
     let i = issuer.to_be_bytes();
     let k = serial.len().min(20);
     let mut bytes = [0; 23];
-    bytes[0..3].copy_from_slice(&[0x43, i[0], i[1]]);
+    bytes[0..3].copy_from_slice(&[PassKind::Chip as u8, i[0], i[1]]);
     bytes[3..3 + k].copy_from_slice(&serial[0..k]);
     Form {
         len: 3 + k.max(1) as u8,

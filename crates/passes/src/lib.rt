@@ -4,6 +4,7 @@
 pub mod chip;
 pub mod form;
 pub mod identifier;
+pub mod kind;
 pub mod order;
 pub mod reading;
 pub mod tag;

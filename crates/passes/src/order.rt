@@ -1,6 +1,6 @@
 ghost use Rattle.std.specs.Prelude.{◌≡◌};
 ghost use Rattle.std.specs.Ordering.{MatchOrdering};
-ghost use Rattle.passes.specs.Order.{Before, StrictOrder};
+ghost use Rattle.passes.specs.Order.{Before, before, StrictOrder};
 
 use std::cmp::Ordering;
 
@@ -10,4 +10,11 @@ pub fn compare(x: &[u8], y: &[u8]) -> Ordering
     ensures order { StrictOrder }
 {
     x.cmp(&y)
+}
+
+/// Whether a form stands before another.
+pub fn precedes(x: &[u8], y: &[u8]) -> bool
+    ensures { result ≡ before x.now y.now }
+{
+    compare(x, y).is_lt()
 }

@@ -4,7 +4,9 @@ ghost use Rattle.passes.specs.Forms.{tag_form, chip_form};
 ghost use Rattle.passes.specs.Lawful.{Lawful, lawful, begins};
 
 use crate::chip::ChipRef;
+use crate::kind::PassKind;
 use crate::tag::Tag;
+use std::fmt;
 
 /// A pass read from a message.
 #[derive(Clone, Copy)]
@@ -13,14 +15,23 @@ pub enum Pass<'a> {
     Chip(ChipRef<'a>),
 }
 
+impl fmt::Display for Pass<'_> {
+    fn fmt<W: fmt::Write>(&self, f: &mut fmt::Formatter<W>) -> fmt::Result {
+        match self {
+            Pass::Tag(tag) => write!(f, "{tag}"),
+            Pass::Chip(chip) => write!(f, "{chip}"),
+        }
+    }
+}
+
 /// Whether a form of n bytes, 4 or more, may begin with this byte.
-fn may_begin(kind: u8, n: usize) -> bool
-    ensures { result ≡ begins kind n }
+fn may_begin(first: u8, n: usize) -> bool
+    ensures { result ≡ begins first n }
 {
-    match kind {
-        0x54 => n == 11,
-        0x43 => n <= 23,
-        _ => false,
+    match PassKind::try_from(first) {
+        Ok(PassKind::Tag) => n == 11,
+        Ok(PassKind::Chip) => n <= 23,
+        Err(_) => false,
     }
 }
 
@@ -52,7 +63,7 @@ pub fn read_form(bytes: &[u8]) -> Option<Pass<'_>>
         return None;
     }
     let issuer = issuer_of(bytes);
-    if bytes[0] == 0x54 {
+    if bytes[0] == PassKind::Tag as u8 {
         let number = u64::from_be_bytes([
             bytes[3], bytes[4], bytes[5], bytes[6], bytes[7], bytes[8], bytes[9], bytes[10],
         ]);

@@ -66,7 +66,7 @@ impl<D: Decider> Retry<D> {
         let marks = Marks(work);
         let n = list.len();
         if marks.0.len() < n {
-            return Err(Refusal::plain(Reason::NoRoom));
+            return Err(Reason::NoRoom.into());
         }
         self.try_salts(at, sizes, list, &mut marks.0[0..n])
     }

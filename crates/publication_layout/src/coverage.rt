@@ -2,22 +2,12 @@
 ghost use Rattle.std.specs.Prelude.{◌≡◌, ◌+◌, ◌*◌, ◌/◌, ◌%◌, ◌≤◌, ◌&&◌, length, if◌then◌else◌, None, Ok, Err, MatchResult, ◌==◌, nat_le, nat_lt};
 ghost use Rattle.fields.specs.Reading.{two};
 ghost use Rattle.levels.specs.Deciders.{table_in};
-ghost use Rattle.publications.specs.Reading.{kind_of, row_at, same_key, repeats, rows_in, coverage_judge, JudgesAs};
+ghost use Rattle.publications.specs.Reading.{row_at, same_key, repeats, rows_in, coverage_judge, JudgesAs};
 
 use fields::reader::Reader;
-use publications::{CoverageRow, PassKind};
+use passes::kind::PassKind;
+use publications::CoverageRow;
 use refusals::{Reason, Refusal};
-
-/// The kind that a byte names.
-fn kind_of(byte: u8) -> Option<PassKind>
-    ensures { result ≡ kind_of byte }
-{
-    match byte {
-        0x54 => Some(PassKind::Tag),
-        0x43 => Some(PassKind::Chip),
-        _ => None,
-    }
-}
 
 /// The number in two bytes from a place on.
 fn two_at(bytes: &[u8], at: usize) -> u16
@@ -32,7 +22,7 @@ fn row_at(rows: &[u8], at: usize) -> Option<CoverageRow>
     requires { at + 7 ≤ length rows.now }
     ensures { result ≡ row_at rows.now at }
 {
-    let kind = kind_of(rows[at])?;
+    let kind = PassKind::try_from(rows[at]).ok()?;
     let issuer = two_at(rows, at + 1);
     let first = two_at(rows, at + 3);
     let last = two_at(rows, at + 5);

@@ -1,22 +1,12 @@
 //! Writing a publication into an output lent by the caller.
 ghost use Rattle.std.specs.Prelude.{◌≡◌, ℕ, ◌+◌, ◌*◌, ◌≤◌, List, ◌++◌, length, drop, Some, nat_le};
 ghost use Rattle.passes.specs.Outputs.{written_to};
-ghost use Rattle.publications.specs.Publications.{kind_byte, head_field, row_bytes, rows_bytes, coverage_field, published};
+ghost use Rattle.publications.specs.Publications.{head_field, row_bytes, rows_bytes, coverage_field, published};
 ghost use Rattle.publications.specs.Layout.{WriterLaw};
 
 use fields::checks::seal;
 use levels::decider::{Decider, Tabled};
-use publications::{CoverageRow, PassKind, PublicationHead};
-
-/// The byte of a kind.
-fn kind_byte(kind: PassKind) -> u8
-    ensures { result ≡ kind_byte kind }
-{
-    match kind {
-        PassKind::Tag => 0x54,
-        PassKind::Chip => 0x43,
-    }
-}
+use publications::{CoverageRow, PublicationHead};
 
 /// Writes the field of the head.
 fn write_head(head: PublicationHead, out: &mut [u8])
@@ -50,7 +40,7 @@ fn write_row(row: CoverageRow, out: &mut [u8])
     let first = row.first.to_be_bytes();
     let last = row.last.to_be_bytes();
     out[0..7].copy_from_slice(&[
-        kind_byte(row.kind),
+        row.kind.into(),
         issuer[0],
         issuer[1],
         first[0],

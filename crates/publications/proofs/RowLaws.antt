@@ -9,11 +9,12 @@ use Rattle.passes.specs.ByteLaws.{bytes_append}
 use Rattle.fields.specs.Reading.{then, two}
 use Rattle.fields.proofs.Numbers.{be2_two, two_small, two_bytes, be2_bytes}
 use Rattle.fields.proofs.Steps.{never}
-use Rattle.publications.specs.declared.PassKind.{PassKind}
-use Rattle.publications.specs.declared.PassKind.TheVariants.{Tag, Chip}
+use Rattle.passes.specs.declared.kind.PassKind.{PassKind}
+use Rattle.passes.specs.declared.kind.PassKind.TheVariants.{Tag, Chip}
 use Rattle.publications.specs.declared.CoverageRow.{CoverageRow}
-use Rattle.publications.specs.Publications.{kind_byte, row_bytes, rows_bytes}
-use Rattle.publications.specs.Reading.{kind_of, with_kind, row_at, same_key, repeats, rows_from, rows_in}
+use Rattle.passes.specs.Kinds.{kind_byte, kind_of}
+use Rattle.publications.specs.Publications.{row_bytes, rows_bytes}
+use Rattle.publications.specs.Reading.{with_kind, row_at, same_key, repeats, rows_from, rows_in}
 use Rattle.publications.specs.Layout.{AllowedRow, AllowedCoverage, no_row, row_of}
 use Rattle.publications.proofs.Rows.{with_row, one_row}
 

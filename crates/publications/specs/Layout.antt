@@ -4,7 +4,7 @@ use Rattle.passes.specs.Bytes.{bytes}
 use Rattle.filters.specs.declared.Hashing.{Hashing}
 use Rattle.levels.specs.Rows.{Row, LawfulRows}
 use Rattle.levels.specs.Deciders.{Table, Decides, table_fields, Saves}
-use Rattle.publications.specs.declared.PassKind.TheVariants.{Tag}
+use Rattle.passes.specs.declared.kind.PassKind.TheVariants.{Tag}
 use Rattle.publications.specs.declared.CoverageRow.{CoverageRow}
 use Rattle.publications.specs.declared.Publication.{Publication}
 use Rattle.publications.specs.declared.PublicationHead.{PublicationHead}

@@ -1,12 +1,11 @@
 -- What a publication holds, and its bytes.
 use Rattle.std.specs.Prelude.{ℕ, List, ◌∷◌, ◌++◌}
 use Rattle.passes.specs.Bytes.{be2}
+use Rattle.passes.specs.Kinds.{kind_byte}
 use Rattle.passes.specs.Outputs.{joined}
 use Rattle.fields.specs.Fields.{field}
 use Rattle.fields.specs.Reading.{be4, checked}
 use Rattle.levels.specs.Deciders.{table_fields}
-use Rattle.publications.specs.declared.PassKind.{PassKind}
-use Rattle.publications.specs.declared.PassKind.TheVariants.{Tag, Chip}
 use Rattle.publications.specs.declared.CoverageRow.{CoverageRow}
 use Rattle.publications.specs.declared.PublicationHead.{PublicationHead}
 
@@ -15,10 +14,6 @@ pub record Content : Type 0 where
   pub head : PublicationHead
   pub coverage : List CoverageRow
   pub tables : List (List ℕ)
-
-abbrev pub kind_byte : PassKind → ℕ
-kind_byte Tag = 0x54
-kind_byte Chip = 0x43
 
 -- edition 1, make, hash count, salt, number
 abbrev pub head_field : PublicationHead → List ℕ

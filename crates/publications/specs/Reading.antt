@@ -6,8 +6,8 @@ use Rattle.refusals.specs.declared.Refusal.{Refusal}
 use Rattle.fields.specs.Reading.{then, content_at, four, two, check_at}
 use Rattle.filters.specs.Kind.{hashes_allowed}
 use Rattle.levels.specs.Deciders.{Table, table_in, tables_at, table_fields}
-use Rattle.publications.specs.declared.PassKind.{PassKind}
-use Rattle.publications.specs.declared.PassKind.TheVariants.{Tag, Chip}
+use Rattle.passes.specs.declared.kind.PassKind.{PassKind}
+use Rattle.passes.specs.Kinds.{kind_of}
 use Rattle.publications.specs.declared.CoverageRow.{CoverageRow}
 use Rattle.publications.specs.declared.PublicationHead.{PublicationHead}
 use Rattle.publications.specs.Publications.{Content}
@@ -29,9 +29,6 @@ head_in makes b =
 
 unfoldable pub head_at : Makes → List ℕ → ℕ → Result PublicationHead Refusal
 head_at makes input at = content_at (head_in makes) 0x01 9 9 input at
-
-abbrev pub kind_of : ℕ → Option PassKind
-kind_of n = cond (n == 0x54) (Some Tag) (cond (n == 0x43) (Some Chip) None)
 
 -- issue days from the first to the last
 abbrev pub with_kind : Option PassKind → ℕ → ℕ → ℕ → Option CoverageRow

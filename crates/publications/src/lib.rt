@@ -1,12 +1,8 @@
 //! What a publication holds, its bytes, and the laws of their layout.
 #![tactic(auto)]
 
-/// The kind of the passes that a coverage row is of.
-#[derive(Clone, Copy)]
-pub enum PassKind {
-    Tag,
-    Chip,
-}
+use passes::kind::PassKind;
+use std::fmt;
 
 /// A coverage row: the issue days of an issuer's passes of a kind that are known, from the first to the last.
 #[derive(Clone, Copy)]
@@ -15,6 +11,16 @@ pub struct CoverageRow {
     pub issuer: u16,
     pub first: u16,
     pub last: u16,
+}
+
+impl fmt::Display for CoverageRow {
+    fn fmt<W: fmt::Write>(&self, f: &mut fmt::Formatter<W>) -> fmt::Result {
+        write!(
+            f,
+            "{} {} {} {}",
+            self.kind, self.issuer, self.first, self.last
+        )
+    }
 }
 
 /// The head of a publication: its make, its hash count, the salt and the publication number.

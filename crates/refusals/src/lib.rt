@@ -4,6 +4,8 @@
 ghost use Rattle.std.specs.Prelude.{◌≡◌};
 ghost use Rattle.refusals.specs.Numbers.{number_of, plain, refused};
 
+use std::fmt;
+
 /// Every reason to refuse, in the order of its number.
 #[derive(Clone, Copy)]
 pub enum Reason {
@@ -54,11 +56,24 @@ pub enum Reason {
 }
 
 impl Reason {
-    /// The number that the reason goes by.
-    pub fn number(self) -> u8
-        ensures { result ≡ number_of self }
+    /// A refusal of a field for this reason: the field's tag and the place of its first byte.
+    pub fn at(self, tag: u8, place: usize) -> Refusal
+        ensures { result ≡ refused self tag place }
     {
-        self as u8
+        Refusal {
+            reason: self,
+            tag,
+            place,
+        }
+    }
+}
+
+/// The number that the reason goes by.
+impl From<Reason> for u8 {
+    ghost from_gives = { λ reason n. n ≡ number_of reason };
+
+    fn from(reason: Reason) -> u8 {
+        reason as u8
     }
 }
 
@@ -70,26 +85,31 @@ pub struct Refusal {
     pub place: usize,
 }
 
-impl Refusal {
-    /// A refusal that names no field.
-    pub fn plain(reason: Reason) -> Refusal
-        ensures { result ≡ plain reason }
-    {
+/// A refusal that names no field.
+impl From<Reason> for Refusal {
+    ghost from_gives = { λ reason r. r ≡ plain reason };
+
+    fn from(reason: Reason) -> Refusal {
         Refusal {
             reason,
             tag: 0,
             place: 0,
         }
     }
+}
 
+impl Refusal {
     /// The same reason, at a field: its tag and the place of its first byte.
     pub fn in_field(self, tag: u8, place: usize) -> Refusal
         ensures { result ≡ refused self.reason tag place }
     {
-        Refusal {
-            reason: self.reason,
-            tag,
-            place,
-        }
+        self.reason.at(tag, place)
+    }
+}
+
+impl fmt::Display for Refusal {
+    fn fmt<W: fmt::Write>(&self, f: &mut fmt::Formatter<W>) -> fmt::Result {
+        let number = u8::from(self.reason);
+        write!(f, "refused {number} tag {} place {}", self.tag, self.place)
     }
 }

@@ -2,14 +2,21 @@
 ghost use Rattle.std.specs.Prelude.{◌≡◌, ◌+◌, ◌≤◌, ◌&&◌, length, Ok, Err, MatchResult, nat_le};
 ghost use Rattle.passes.specs.Lawful.{lawful};
 ghost use Rattle.passes.specs.Order.{before};
-ghost use Rattle.sheets.specs.Reading.{head_in, head_at, side_of, word_in, word_at, behind};
+ghost use Rattle.sheets.specs.Sides.{side_of};
+ghost use Rattle.sheets.specs.Reading.{head_in, head_at, word_in, word_at, behind};
 ghost use Rattle.sheets.specs.Stages.{word_of};
 
 use fields::reader::Reader;
-use passes::order::compare;
+use passes::order::precedes;
 use passes::reading::is_lawful;
 use refusals::{Reason, Refusal};
 use sheets::{SheetHead, SheetWord, Side};
+
+/// The tag of the field of the head.
+const HEAD: u8 = 0x21;
+
+/// The tag of the field of a word.
+const WORD: u8 = 0x22;
 
 /// The head in a body of 7 bytes.
 fn head_in(body: &[u8]) -> Result<SheetHead, Reason>
@@ -24,43 +31,20 @@ fn head_in(body: &[u8]) -> Result<SheetHead, Reason>
     Ok(SheetHead { number, step })
 }
 
-/// Whether a form stands before another.
-fn precedes(x: &[u8], y: &[u8]) -> bool
-    ensures { result ≡ before x.now y.now }
-{
-    compare(x, y).is_lt()
-}
-
-/// The side that a byte says.
-fn side_of(byte: u8) -> Side
-    ensures { result ≡ side_of byte }
-{
-    if byte == 0 { Side::Good } else { Side::Blocked }
-}
-
-/// Whether a side byte and a form are allowed.
-fn is_word(byte: u8, form: &[u8]) -> bool
-    ensures { result ≡ (nat_le byte 1 && lawful form.now) }
-{
-    byte <= 1 && is_lawful(form)
-}
-
 /// The word in a body of 5 bytes or more; its form is a part of the body.
 fn word_in<'a>(last: &[u8], body: &'a [u8]) -> Result<SheetWord<'a>, Reason>
     requires { 1 ≤ length body.now }
     ensures { MatchResult result (λ w. word_in last.now body.now ≡ Ok (word_of w)) (λ e. word_in last.now body.now ≡ Err e) }
 {
+    let side = Side::try_from(body[0])?;
     let form = &body[1..];
-    if !is_word(body[0], form) {
+    if !is_lawful(form) {
         return Err(Reason::BadValue);
     }
     if !precedes(last, form) {
         return Err(Reason::NotAscending);
     }
-    Ok(SheetWord {
-        side: side_of(body[0]),
-        form,
-    })
+    Ok(SheetWord { side, form })
 }
 
 /// Reads the head.
@@ -71,15 +55,8 @@ pub(crate) fn read_head(reader: &mut Reader<'_>) -> Result<SheetHead, Refusal>
     ensures input { reader.new.input.now ≡ reader.old.input.now }
 {
     let place = reader.place();
-    let body = reader.field(0x21, 7, 7)?;
-    match head_in(body) {
-        Ok(head) => Ok(head),
-        Err(reason) => Err(Refusal {
-            reason,
-            tag: 0x21,
-            place,
-        }),
-    }
+    let body = reader.field(HEAD, 7, 7)?;
+    head_in(body).map_err(|reason| reason.at(HEAD, place))
 }
 
 /// Reads a word, whose form has to stand above the last one.
@@ -90,13 +67,6 @@ pub(crate) fn read_word<'a>(last: &[u8], reader: &mut Reader<'a>) -> Result<Shee
     ensures input { reader.new.input.now ≡ reader.old.input.now }
 {
     let place = reader.place();
-    let body = reader.field(0x22, 5, 24)?;
-    match word_in(last, body) {
-        Ok(word) => Ok(word),
-        Err(reason) => Err(Refusal {
-            reason,
-            tag: 0x22,
-            place,
-        }),
-    }
+    let body = reader.field(WORD, 5, 24)?;
+    word_in(last, body).map_err(|reason| reason.at(WORD, place))
 }

@@ -2,23 +2,13 @@
 ghost use Rattle.std.specs.Prelude.{◌≡◌, ◌+◌, ◌≤◌, ◌++◌, map, length, drop, Some, nat_le};
 ghost use Rattle.fields.specs.Reading.{be4};
 ghost use Rattle.passes.specs.Outputs.{written_to};
-ghost use Rattle.sheets.specs.Sheets.{side_byte, head_field, word_field, word_fields, writes};
+ghost use Rattle.sheets.specs.Sheets.{head_field, word_field, word_fields, writes};
 ghost use Rattle.fields.specs.Fields.{field};
 ghost use Rattle.sheets.specs.Stages.{word_of, sheet_of};
 ghost use Rattle.sheets.specs.Layout.{LayoutLaw};
 
 use fields::checks::seal;
-use sheets::{SheetHead, SheetWord, Side};
-
-/// The byte of a side.
-fn side_byte(side: Side) -> u8
-    ensures { result ≡ side_byte side }
-{
-    match side {
-        Side::Good => 0,
-        Side::Blocked => 1,
-    }
-}
+use sheets::{SheetHead, SheetWord};
 
 /// Whether a sheet with these words fits into so many bytes, under any head.
 fn has_room(words: &[SheetWord<'_>], room: usize) -> bool
@@ -54,7 +44,7 @@ fn write_word(word: SheetWord<'_>, out: &mut [u8])
 {
     let n = word.form.len();
     let len = (((1 + n) & 0xFFFF) as u16).to_be_bytes();
-    out[0..4].copy_from_slice(&[0x22, len[0], len[1], side_byte(word.side)]);
+    out[0..4].copy_from_slice(&[0x22, len[0], len[1], word.side.into()]);
     out[4..4 + n].copy_from_slice(word.form);
 }
 

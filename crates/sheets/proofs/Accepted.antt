@@ -12,9 +12,10 @@ use Rattle.fields.specs.Reading.{checked, then, four, two, check_at}
 use Rattle.fields.proofs.Steps.{never}
 use Rattle.fields.proofs.Numbers.{four_small, two_small}
 use Rattle.fields.proofs.Stands.{then_ok, content_stands, check_stands}
+use Rattle.sheets.specs.Sides.{side_byte, side_of}
 use Rattle.sheets.specs.declared.SheetHead.{SheetHead}
-use Rattle.sheets.specs.Sheets.{Word, Sheet, side_byte, head_field, word_field, word_fields, writes}
-use Rattle.sheets.specs.Reading.{head_in, head_at, side_of, word_in, word_at, is_check, check_due, behind, words_from, reads}
+use Rattle.sheets.specs.Sheets.{Word, Sheet, head_field, word_field, word_fields, writes}
+use Rattle.sheets.specs.Reading.{head_in, head_at, word_in, word_at, is_check, check_due, behind, words_from, reads}
 use Rattle.sheets.specs.Layout.{Allowed}
 use Rattle.sheets.proofs.Steps.{found_word}
 use Rattle.sheets.proofs.Words.{all_lawful, above, each_lawful, pairs}

@@ -9,11 +9,12 @@ use Rattle.passes.specs.Lawful.{lawful}
 use Rattle.fields.proofs.Readback.{field_bytes, check_bytes, check_length}
 use Rattle.fields.specs.Reading.{be4, check_field, then}
 use Rattle.fields.proofs.Numbers.{be2_bytes, be4_bytes}
+use Rattle.sheets.specs.Sides.{side_byte}
 use Rattle.sheets.specs.declared.Side.{Side}
 use Rattle.sheets.specs.declared.Side.TheVariants.{Good, Blocked}
 use Rattle.sheets.specs.declared.SheetHead.{SheetHead}
 use Rattle.sheets.specs.declared.SheetSummary.{SheetSummary}
-use Rattle.sheets.specs.Sheets.{Word, Sheet, side_byte, head_field, word_field, word_fields, writes}
+use Rattle.sheets.specs.Sheets.{Word, Sheet, head_field, word_field, word_fields, writes}
 use Rattle.sheets.specs.Reading.{reads, summary}
 use Rattle.sheets.specs.Layout.{Allowed, Written, LayoutLaw}
 use Rattle.sheets.proofs.Words.{all_lawful, lawful_size, lawful_bytes, all_from}

@@ -11,10 +11,11 @@ use Rattle.fields.specs.Reading.{be4, check_field, checked, then, four, two, che
 use Rattle.fields.proofs.Steps.{content_read}
 use Rattle.fields.proofs.Numbers.{four_bytes, two_bytes}
 use Rattle.fields.proofs.Readback.{tag_back, field_back, check_back, check_tag}
+use Rattle.sheets.specs.Sides.{side_byte}
 use Rattle.sheets.specs.declared.Side.{Side}
 use Rattle.sheets.specs.declared.Side.TheVariants.{Good, Blocked}
 use Rattle.sheets.specs.declared.SheetHead.{SheetHead}
-use Rattle.sheets.specs.Sheets.{Word, Sheet, side_byte, head_field, word_field, word_fields, writes}
+use Rattle.sheets.specs.Sheets.{Word, Sheet, head_field, word_field, word_fields, writes}
 use Rattle.sheets.specs.Reading.{head_in, head_at, word_in, word_at, is_check, check_due, behind, words_from, reads}
 use Rattle.sheets.specs.Layout.{Allowed}
 use Rattle.sheets.proofs.Words.{all_lawful, above, lawful_size, all_from, above_empty}

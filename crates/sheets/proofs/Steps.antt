@@ -6,8 +6,9 @@ use Rattle.refusals.specs.declared.Reason.TheVariants.{BadValue, NotAscending}
 use Rattle.passes.specs.Lawful.{lawful}
 use Rattle.passes.specs.Order.{before}
 use Rattle.fields.proofs.Steps.{never}
+use Rattle.sheets.specs.Sides.{side_of}
 use Rattle.sheets.specs.Sheets.{Word}
-use Rattle.sheets.specs.Reading.{side_of, word_in}
+use Rattle.sheets.specs.Reading.{word_in}
 
 -- the word in a body, whose form is what is behind the side
 module _ (last body : List ℕ) where

@@ -9,9 +9,10 @@ use Rattle.fields.specs.Sealing.{sealed}
 use Rattle.fields.proofs.Sealed.{seal_wrote}
 use Rattle.passes.specs.Outputs.{written_to}
 use Rattle.passes.proofs.Outputs.{Wrote, wrote, behind, chain}
+use Rattle.sheets.specs.Sides.{side_byte}
 use Rattle.sheets.specs.declared.SheetHead.{SheetHead}
 use Rattle.sheets.specs.declared.SheetWord.{SheetWord}
-use Rattle.sheets.specs.Sheets.{Word, side_byte, head_field, word_field, word_fields, writes}
+use Rattle.sheets.specs.Sheets.{Word, head_field, word_field, word_fields, writes}
 use Rattle.sheets.specs.Stages.{word_of, sheet_of}
 use Rattle.sheets.proofs.Layouts.{writes_length}
 

@@ -1,3 +1,4 @@
+pub mod Sides
 pub mod Sheets
 pub mod Reading
 pub mod Stages

@@ -7,10 +7,9 @@ use Rattle.passes.specs.Lawful.{lawful}
 use Rattle.passes.specs.Order.{before}
 use Rattle.fields.specs.Fields.{tag_at}
 use Rattle.fields.specs.Reading.{then, content_at, four, two, check_at}
-use Rattle.sheets.specs.declared.Side.{Side}
-use Rattle.sheets.specs.declared.Side.TheVariants.{Good, Blocked}
 use Rattle.sheets.specs.declared.SheetHead.{SheetHead}
 use Rattle.sheets.specs.declared.SheetSummary.{SheetSummary}
+use Rattle.sheets.specs.Sides.{side_of}
 use Rattle.sheets.specs.Sheets.{Word, Sheet}
 
 -- edition 1, a number and a step from 1
@@ -19,9 +18,6 @@ head_in b = cond (slice_index b 0 == 1 && (nat_lt 0 (four b 1) && nat_lt 0 (two 
 
 unfoldable pub head_at : List ℕ → ℕ → Result SheetHead Refusal
 head_at input at = content_at head_in 0x21 7 7 input at
-
-abbrev pub side_of : ℕ → Side
-side_of n = cond (n == 0) Good Blocked
 
 -- a side and a lawful form, which stands above the last one
 abbrev pub word_in : List ℕ → List ℕ → Result Word Reason

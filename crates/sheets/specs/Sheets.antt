@@ -4,7 +4,7 @@ use Rattle.passes.specs.Bytes.{be2}
 use Rattle.fields.specs.Fields.{field}
 use Rattle.fields.specs.Reading.{be4, checked}
 use Rattle.sheets.specs.declared.Side.{Side}
-use Rattle.sheets.specs.declared.Side.TheVariants.{Good, Blocked}
+use Rattle.sheets.specs.Sides.{side_byte}
 use Rattle.sheets.specs.declared.SheetHead.{SheetHead}
 
 pub record Word : Type 0 where
@@ -14,10 +14,6 @@ pub record Word : Type 0 where
 pub record Sheet : Type 0 where
   pub head : SheetHead
   pub words : List Word
-
-abbrev pub side_byte : Side → ℕ
-side_byte Good = 0
-side_byte Blocked = 1
 
 -- edition 1, the publication number, the step
 abbrev pub head_field : SheetHead → List ℕ

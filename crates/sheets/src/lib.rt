@@ -1,11 +1,48 @@
 //! What a day sheet holds, its bytes, and the laws of their layout.
 #![tactic(auto)]
 
-/// What a word says of a pass.
-#[derive(Clone, Copy)]
+ghost use Rattle.std.specs.Prelude.{◌≡◌};
+ghost use Rattle.sheets.specs.Sides.{side_byte, NamesSide};
+
+use refusals::Reason;
+use std::fmt;
+
+/// What a word says of a pass. Its number is the byte that says so.
+#[derive(Clone, Copy, PartialEq, Eq)]
 pub enum Side {
-    Good,
-    Blocked,
+    Good = 0,
+    Blocked = 1,
+}
+
+impl From<Side> for u8 {
+    ghost from_gives = { λ side n. n ≡ side_byte side };
+
+    fn from(side: Side) -> u8 {
+        side as u8
+    }
+}
+
+impl TryFrom<u8> for Side {
+    type Error = Reason;
+
+    ghost try_from_gives = { NamesSide };
+
+    fn try_from(byte: u8) -> Result<Self, Reason> {
+        match byte {
+            0 => Ok(Side::Good),
+            1 => Ok(Side::Blocked),
+            _ => Err(Reason::BadValue),
+        }
+    }
+}
+
+impl fmt::Display for Side {
+    fn fmt<W: fmt::Write>(&self, f: &mut fmt::Formatter<W>) -> fmt::Result {
+        f.write_str(match self {
+            Side::Good => "good",
+            Side::Blocked => "blocked",
+        })
+    }
 }
 
 /// The head of a sheet: the publication number, and the step.

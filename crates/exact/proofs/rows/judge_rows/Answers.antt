@@ -29,8 +29,8 @@ returns-then-room-eq0 c =
       | then-room-eq0-via-else-room-eq0+then-not-is_whole w ↦ judge_broken last left k.2 room (sym w.is_whole.ensures ∙ w.if-not-is_whole.true)
       | then-room-eq0-via-else-room-eq0+else-not-is_whole+then-not-is_lawful w ↦ judge_unlawful last left k.2 room (ap lawful (sym k.0) ∙ sym w.is_lawful.ensures.value ∙ w.if-not-is_lawful.true)
     ] in
-    let v = ap refused c.plain.ensures ∙ ap answer (sym m ∙ c.rows.invariant) in
-    record { value = v; meaning = judge_decides c.args.body.now (refused c.plain.result) v; law = packing_law }
+    let v = ap refused c.into.ensures ∙ ap answer (sym m ∙ c.rows.invariant) in
+    record { value = v; meaning = judge_decides c.args.body.now (refused c.into.result) v; law = packing_law }
 
 pub returns-then-not-precedes : goal.returns-then-not-precedes
 unfolding answer refused
@@ -41,8 +41,8 @@ returns-then-not-precedes c =
     let w : whole (get_or left 0 0) (drop 1 left) ≡ true = sym c.is_whole.ensures ∙ c.if-not-is_whole.false in
     let f : lawful (first_form left) ≡ true = ap lawful (sym k.0) ∙ sym c.is_lawful.ensures.value ∙ c.if-not-is_lawful.false in
     let b : before last (first_form left) ≡ false = ap (before last) (sym k.0) ∙ sym c.precedes.ensures ∙ c.if-not-precedes.true in
-    let v = ap refused c.plain-then-not-precedes.ensures ∙ ap answer (sym (judge_unsorted last left k.2 w f c.rows.room c.if-room-eq0.false b) ∙ c.rows.invariant) in
-    record { value = v; meaning = judge_decides c.args.body.now (refused c.plain-then-not-precedes.result) v; law = packing_law }
+    let v = ap refused c.into-then-not-precedes.ensures ∙ ap answer (sym (judge_unsorted last left k.2 w f c.rows.room c.if-room-eq0.false b) ∙ c.rows.invariant) in
+    record { value = v; meaning = judge_decides c.args.body.now (refused c.into-then-not-precedes.result) v; law = packing_law }
 
 pub rows-smaller : goal.rows-smaller
 rows-smaller c = let k = c.in-Some.ensures in let l = shorter c.rows.left.now k.2 in omega (arith, ap length k.1)

@@ -14,7 +14,7 @@ returns-then-marks-n g c =
     let n = length_listed g.I.Identifier.form es in
     let rs = listed g.I.Identifier.form es in
     record {
-      built = cond-true (ltb work (length rs)) _ _ (lt-ltb work (length rs) (omega (arith, c.if-marks-n.true))) ∙ ap Err (sym c.plain.ensures);
+      built = cond-true (ltb work (length rs)) _ _ (lt-ltb work (length rs) (omega (arith, c.if-marks-n.true))) ∙ ap Err (sym c.into.ensures);
       law = outcome g.D.Decider.decider;
       zero = c.drop-marks.ensures;
     }
