@@ -8,7 +8,7 @@ use Rattle.refusals.specs.Numbers.{refused}
 use Rattle.murmur.specs.Hash.{murmur}
 use Rattle.fields.specs.declared.Header.{Header}
 use Rattle.fields.specs.Fields.{header_at, body_at, stepped}
-use Rattle.fields.specs.Reading.{field_at, content_at, four, check_at}
+use Rattle.fields.specs.Reading.{in_field, field_at, content_at, four, check_at}
 
 pub never : {A E : Type 0} (e : E) (a : A) → ◌≡◌ {A = Result A E} (Err e) (Ok a) → ⊥
 never e a h = let z : ◌≡◌ {A = ℕ} 0 1 = cc in omega arith
@@ -100,6 +100,15 @@ module _ {A : Type 0} (found : List ℕ → Result A Reason) (due low high at : 
 
   pub content_bad : (b : List ℕ) (r : Reason) (place : ℕ) → field_at due low high input at ≡ Ok b → found b ≡ Err r → place ≡ at → content_at found due low high input at ≡ Err (refused r due place)
   content_bad b r place p q e = rw (p, q, e)
+
+  -- what was found, seen as v, or a refusal of the field for the reason that came
+  pub content_found : {B : Type 0} (v : B → A) (P : B → Type 0) (b : List ℕ) (x : Result B Reason) (r : Result B Refusal) (place : ℕ) → field_at due low high input at ≡ Ok b → MatchResult x (λ y. found b ≡ Ok (v y)) (λ e. found b ≡ Err e) → place ≡ at → ((y : B) → found b ≡ Ok (v y) → P y) → r ≡ in_field due place x → MatchResult r (λ y. (content_at found due low high input at ≡ Ok (v y)) × P y) (λ d. content_at found due low high input at ≡ Err d)
+  content_found v P b (Ok y) r place p q e h m = rw m (content_read b (v y) p q, h y q)
+  content_found v P b (Err e) r place p q l h m = rw m (content_bad b e place p q l)
+
+  pub found_as : (b : List ℕ) (x : Result A Reason) → x ≡ found b → MatchResult x (λ y. found b ≡ Ok y) (λ e. found b ≡ Err e)
+  found_as b (Ok y) e = sym e
+  found_as b (Err r) e = sym e
 
 -- the check
 module _ (at : ℕ) (input : List ℕ) where

@@ -4,6 +4,9 @@ ghost use Rattle.murmur.specs.Hash.{murmur};
 ghost use Rattle.fields.specs.Reading.{four};
 ghost use Rattle.fields.specs.Sealing.{sealed};
 
+/// The tag of the field of the check.
+pub const CHECK: u8 = 0xFF;
+
 /// The check in a body of four bytes.
 pub(crate) fn check_in(body: &[u8]) -> u32
     requires { 4 ≤ length body.now }
@@ -29,6 +32,6 @@ pub fn seal(end: usize, out: &mut [u8]) -> Option<usize>
         return None;
     }
     let check = check_of(out, end).to_be_bytes();
-    out[end..end + 7].copy_from_slice(&[0xFF, 0, 4, check[0], check[1], check[2], check[3]]);
+    out[end..end + 7].copy_from_slice(&[CHECK, 0, 4, check[0], check[1], check[2], check[3]]);
     Some(end + 7)
 }

@@ -3,7 +3,7 @@ ghost use Rattle.fields.specs.Fields.{tag_at, header_at, body_at, stepped};
 ghost use Rattle.fields.specs.Reading.{field_at, check_at};
 
 use crate::Header;
-use crate::checks::{check_in, check_of};
+use crate::checks::{CHECK, check_in, check_of};
 use refusals::{Reason, Refusal};
 
 /// Reads an input field by field; it stands at the first byte not read yet.
@@ -49,18 +49,10 @@ impl<'a> Reader<'a> {
     {
         let place = self.at;
         if self.input.len() - place < 3 {
-            return Err(Refusal {
-                reason: Reason::CutShort,
-                tag: due,
-                place,
-            });
+            return Err(Reason::CutShort.at(due, place));
         }
         if self.input[place] != due {
-            return Err(Refusal {
-                reason: Reason::WrongTag,
-                tag: due,
-                place,
-            });
+            return Err(Reason::WrongTag.at(due, place));
         }
         let len = self.input[place + 1] as usize * 256 + self.input[place + 2] as usize;
         self.at = place + 3;
@@ -79,11 +71,7 @@ impl<'a> Reader<'a> {
     {
         let start = self.at;
         if self.input.len() - start < header.len {
-            return Err(Refusal {
-                reason: Reason::CutShort,
-                tag: header.tag,
-                place: header.place,
-            });
+            return Err(Reason::CutShort.at(header.tag, header.place));
         }
         let end = start + header.len;
         self.at = end;
@@ -99,11 +87,7 @@ impl<'a> Reader<'a> {
     {
         let header = self.header(due)?;
         if header.len < low || header.len > high {
-            return Err(Refusal {
-                reason: Reason::BadLength,
-                tag: due,
-                place: header.place,
-            });
+            return Err(Reason::BadLength.at(due, header.place));
         }
         self.body(header)
     }
@@ -116,21 +100,13 @@ impl<'a> Reader<'a> {
         ensures input { self.new.input.now ≡ self.old.input.now }
     {
         let place = self.at;
-        let body = self.field(0xFF, 4, 4)?;
+        let body = self.field(CHECK, 4, 4)?;
         if check_in(body) != check_of(self.input, place) {
-            return Err(Refusal {
-                reason: Reason::WrongCheck,
-                tag: 0xFF,
-                place,
-            });
+            return Err(Reason::WrongCheck.at(CHECK, place));
         }
         let end = self.at;
         if end < self.input.len() {
-            return Err(Refusal {
-                reason: Reason::BytesLeft,
-                tag: 0,
-                place: end,
-            });
+            return Err(Reason::BytesLeft.at(0, end));
         }
         Ok(())
     }

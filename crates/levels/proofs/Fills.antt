@@ -6,6 +6,7 @@ use Rattle.refusals.specs.declared.Refusal.{Refusal}
 use Rattle.filters.specs.declared.Hashing.{Hashing}
 use Rattle.filters.specs.Kind.{Kind}
 use Rattle.levels.specs.declared.Entry.{Entry}
+use Rattle.levels.specs.Marks.{mark_number, mark_in}
 use Rattle.levels.specs.Rows.{Row, rows}
 use Rattle.levels.specs.Deciders.{Decides, fill, turn, remark, begun, at_size, deeper, level_decides}
 
@@ -23,16 +24,9 @@ module _ {I : Type 0} (f : I → List ℕ) where
   rows_suc (x ∷ es) (m ∷ ms) zero d l n = refl
   rows_suc (x ∷ es) (m ∷ ms) (suc i) d l n = rows_suc es ms i d (omega arith) (omega arith)
 
-  pub rows_at : (es : List (Entry I)) (ms : List ℕ) (i : ℕ) (d : Entry I) → i < length es → length es ≡ length ms → drop i (rows f es ms) ≡ row f (get_or es i d) (get_or ms i 0) ∷ drop (i + 1) (rows f es ms)
-  rows_at es ms i d l n = rw (add-one i) (rows_suc es ms i d l n)
-
-  -- some element of a list that is not empty
-  some : (es : List (Entry I)) (i : ℕ) → i < length es → Entry I
-  some [] i l = absurd (omega arith)
-  some (x ∷ es) i l = x
-
-  pub rows_some : (es : List (Entry I)) (ms : List ℕ) (i : ℕ) → i < length es → length es ≡ length ms → (e : Entry I) × (drop i (rows f es ms) ≡ row f e (get_or ms i 0) ∷ drop (i + 1) (rows f es ms))
-  rows_some es ms i l n = (get_or es i (some es i l), rows_at es ms i (some es i l) l n)
+  -- the row of the element that a loop is at
+  pub rows_item : (es : List (Entry I)) (ms : List ℕ) (i : ℕ) (e : Entry I) → e ≡ get_or es i e → i < length es → length es ≡ length ms → drop i (rows f es ms) ≡ row f e (get_or ms i 0) ∷ drop (i + 1) (rows f es ms)
+  rows_item es ms i e is l n = rw (add-one i) (rows_suc es ms i e l n) ∙ ap (λ (x : Entry I). row f x (get_or ms i 0) ∷ drop (i + 1) (rows f es ms)) (sym is)
 
   -- past the end nothing is left
   pub rows_end : (es : List (Entry I)) (ms : List ℕ) (i : ℕ) → length es ≤ i → drop i (rows f es ms) ≡ []
@@ -66,6 +60,14 @@ module _ {V : Type 0} (k : Kind V) where
   pub fill_done : (v : V) (i : ℕ) → fill k v i [] ≡ Ok v
   unfolding fill
   fill_done v i = refl
+
+-- a number that names no mark counts as 0
+pub remark_named : {V : Type 0} (k : Kind V) (v : V) (x : List ℕ) (n : ℕ) → remark k v (record { form = x; mark = mark_number (mark_in n) }) ≡ remark k v (record { form = x; mark = n })
+remark_named k v x n =
+    ⊎_elim
+    (λ (e : n ≡ 1). rw e)
+    (λ (e : n ≡ 1 → ⊥). ⊎_elim (λ (h : n ≡ 2). rw h) (λ (h : n ≡ 2 → ⊥). rw (ne_eqb n 1 e, ne_eqb n 2 h)) (cases_eq n 2))
+    (cases_eq n 1)
 
 -- the mark that `turn` gives at place i
 pub marks_more : (ns : List ℕ) (i y : ℕ) (P : ℕ → ℕ → Type 0) → i < length ns → ((j : ℕ) → j < i → P j (get_or ns j 0)) → P i y → (j : ℕ) → j < i + 1 → P j (get_or (set ns i y) j 0)

@@ -4,16 +4,16 @@ use Rattle.std.proofs.lemmas.Bool.{cases_Bool, cond-true, cond-false}
 use Rattle.refusals.specs.declared.Reason.{Reason}
 use Rattle.refusals.specs.declared.Reason.TheVariants.{BadLength}
 use Rattle.refusals.specs.declared.Refusal.{Refusal}
-use Rattle.refusals.specs.Numbers.{refused, plain}
+use Rattle.refusals.specs.Numbers.{refused}
 use Rattle.filters.specs.declared.Hashing.{Hashing}
 use Rattle.filters.specs.Kind.{Kind, judged}
 use Rattle.filters.specs.Answers.{answered, unless, after_load}
 use Rattle.fields.specs.declared.Header.{Header}
 use Rattle.fields.specs.Fields.{header_at, body_at}
-use Rattle.fields.specs.Reading.{then}
+use Rattle.fields.specs.Reading.{then, in_field}
 use Rattle.fields.proofs.Steps.{never, headed, bodied}
 use Rattle.fields.proofs.Stands.{then_ok}
-use Rattle.levels.specs.Deciders.{Decides, Over, Table, table_at, table_in, judged_in, tag_of, deeper, level_decides, end_decides}
+use Rattle.levels.specs.Deciders.{Decides, Over, Table, table_at, table_in, judged_as, judged_in, tag_of, deeper, level_decides, end_decides}
 
 -- one reading: the header, the body behind it, and the judgement
 module _ (t : Table) (tag hashes at : ℕ) (input : List ℕ) where
@@ -67,10 +67,22 @@ module _ (t : Table) (tag hashes at : ℕ) (input : List ℕ) where
       (λ (m : t.measures h.len ≡ false). absurd (never (refused BadLength tag at) body (sym (cond-false (t.measures h.len) _ _ m) ∙ w.2)))
       (cases_Bool (t.measures h.len))
 
--- the reason in a refusal of judge
-pub err_some : (o : Option Reason) (e : Refusal) → Err e ≡ answered o → o ≡ Some e.reason
-err_some None e p = absurd (never e tt p)
-err_some (Some r) e p = let q : e ≡ plain r = cc in ap Some (sym (ap (λ (x : Refusal). x.reason) q))
+-- a judgement, as the refusal of a field
+module _ (tag place : ℕ) where
+  ok_none : (o : Option Reason) (u : Unit {0}) → in_field tag place (judged_as o) ≡ Ok u → o ≡ None
+  ok_none None u e = refl
+  ok_none (Some r) u e = absurd (never (refused r tag place) u e)
+
+  err_some : (o : Option Reason) (f : Refusal) → in_field tag place (judged_as o) ≡ Err f → (r : Reason) × (o ≡ Some r) × (f ≡ refused r tag place)
+  err_some None f e = absurd (never f tt (sym e))
+  err_some (Some r) f e = let q : f ≡ refused r tag place = cc in (r, refl, q)
+
+  module _ (o : Option Reason) (x : Result (Unit {0}) Reason) (y : Result (Unit {0}) Refusal) (q : x ≡ judged_as o) (p : y ≡ in_field tag place x) where
+    pub judged_ok : (u : Unit {0}) → y ≡ Ok u → o ≡ None
+    judged_ok u e = ok_none o u (ap (in_field tag place) (sym q) ∙ sym p ∙ e)
+
+    pub judged_err : (f : Refusal) → y ≡ Err f → (r : Reason) × (o ≡ Some r) × (f ≡ refused r tag place)
+    judged_err f e = err_some o f (ap (in_field tag place) (sym q) ∙ sym p ∙ e)
 
 -- a load of bytes that were judged
 pub load_done : {V : Type 0} (k : Kind V) (v w : V) (h : Hashing) (body : List ℕ) (res : Result (Unit {0}) Refusal) → (res, w) ≡ after_load k v h body → judged k h.hashes body ≡ None → (res ≡ Ok tt) × (w ≡ k.loaded h body)

@@ -35,6 +35,11 @@ pub record Table : Type 0 where
 abbrev pub table_of : {V : Type 0} → Kind V → Table
 table_of k = record { measures = k.measures; judged = judged k }
 
+-- what a judge answers, given the reason not to accept, if there is one
+abbrev pub judged_as : Option Reason → Result (Unit {0}) Reason
+judged_as None = Ok tt
+judged_as (Some r) = Err r
+
 abbrev pub judged_in : ℕ → ℕ → List ℕ → Option Reason → Result (List ℕ) Refusal
 judged_in tag at body None = Ok body
 judged_in tag at body (Some r) = Err (refused r tag at)

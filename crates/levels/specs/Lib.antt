@@ -1,3 +1,4 @@
+pub mod Marks
 pub mod Rows
 pub mod Deciders
 pub mod Laws

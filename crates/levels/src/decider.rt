@@ -4,7 +4,8 @@ ghost use Rattle.levels.specs.Rows.{rows};
 ghost use Rattle.levels.specs.Deciders.{Decides, Saves};
 ghost use Rattle.levels.specs.Laws.{Keeps, SavesTables};
 
-use crate::{Entry, Side};
+use crate::Side;
+use crate::marked::Marked;
 use fields::reader::Reader;
 use filters::Hashing;
 use passes::identifier::Identifier;
@@ -28,18 +29,16 @@ pub trait Decider: Sized {
     fn ask<I: Identifier>(&self, id: &I) -> (Side, u8)
         ensures { (result.0, result.1) ≡ decider.decides (state self.now) (I.form id.now) };
 
-    /// Builds it from a register under the marks beside it; `sizes` has a table size for each level.
+    /// Builds it from a register under its marks; `sizes` has a table size for each level.
     fn build<I: Identifier>(
         &mut self,
         at: Hashing,
         sizes: &[usize],
-        list: &[Entry<I>],
-        marks: &mut [u8],
+        register: &mut Marked<'_, I>,
     ) -> Result<(), Refusal>
-        requires { length list.now ≡ length marks.old }
         ensures { MatchResult result
-            (λ _. decider.build at sizes.now (rows I.form list.now marks.old) ≡ Ok (state self.new))
-            (λ e. decider.build at sizes.now (rows I.form list.now marks.old) ≡ Err e) };
+            (λ _. decider.build at sizes.now (rows I.form register.old.list.now register.old.marks.now) ≡ Ok (state self.new))
+            (λ e. decider.build at sizes.now (rows I.form register.old.list.now register.old.marks.now) ≡ Err e) };
 
     /// Whether the fields that it saves as this level fit so many bytes.
     fn fits(&self, level: u8, room: usize) -> bool

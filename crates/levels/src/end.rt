@@ -2,10 +2,10 @@ ghost use Rattle.std.specs.Prelude.{◌≡◌, ℕ, List};
 ghost use Rattle.levels.specs.Deciders.{end_decides, end_saves};
 ghost use Rattle.levels.specs.Keeping.{end_keeps, end_saves_tables};
 
-use crate::building::begin;
+use crate::Side;
 use crate::decider::{Decider, Tabled};
-use crate::tables::{read_table, tag_of, write_table};
-use crate::{Entry, Side};
+use crate::marked::Marked;
+use crate::tables::{Loadable, read_table, tag_of, write_table};
 use fields::reader::Reader;
 use filters::{Exact, Filter, Hashing, Settings};
 use passes::identifier::Identifier;
@@ -44,21 +44,16 @@ impl<F: Exact> Decider for End<F> {
         &mut self,
         at: Hashing,
         sizes: &[usize],
-        list: &[Entry<I>],
-        marks: &mut [u8],
+        register: &mut Marked<'_, I>,
     ) -> Result<(), Refusal> {
-        if sizes.len() != 0 {
+        if !sizes.is_empty() {
             return Err(Reason::BadSetting.into());
         }
-        begin(
-            &mut self.filter,
-            Settings {
-                hashing: at,
-                size: 1536,
-            },
-            list,
-            marks,
-        )
+        let settings = Settings {
+            hashing: at,
+            size: 1536,
+        };
+        register.begin(&mut self.filter, settings)
     }
 
     fn fits(&self, level: u8, room: usize) -> bool {
@@ -70,12 +65,12 @@ impl<F: Exact> Decider for End<F> {
     }
 
     fn judge(at: Hashing, reader: &mut Reader<'_>) -> Result<(), Refusal> {
-        let _ = read_table::<F>(tag_of(at.level), at.hashes, reader)?;
+        let _ = read_table::<Loadable<F>>(tag_of(at.level), at.hashes, reader)?;
         Ok(())
     }
 
     fn load(&mut self, at: Hashing, reader: &mut Reader<'_>) -> Result<(), Refusal> {
-        let body = read_table::<F>(tag_of(at.level), at.hashes, reader)?;
+        let body = read_table::<Loadable<F>>(tag_of(at.level), at.hashes, reader)?;
         self.filter.load(at, body)
     }
 }

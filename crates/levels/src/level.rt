@@ -2,10 +2,10 @@ ghost use Rattle.std.specs.Prelude.{◌≡◌, ℕ, List};
 ghost use Rattle.levels.specs.Deciders.{Over, deeper, level_decides, level_saves};
 ghost use Rattle.levels.specs.Keeping.{level_keeps, level_saves_tables};
 
-use crate::building::{begin, turn};
+use crate::Side;
 use crate::decider::{Decider, Tabled};
-use crate::tables::{read_table, tag_of, write_table};
-use crate::{Entry, Side};
+use crate::marked::Marked;
+use crate::tables::{Loadable, read_table, tag_of, write_table};
 use fields::reader::Reader;
 use filters::{Filter, Hashing, Settings};
 use passes::identifier::Identifier;
@@ -59,23 +59,18 @@ impl<F: Filter, D: Decider> Decider for Level<F, D> {
         &mut self,
         at: Hashing,
         sizes: &[usize],
-        list: &[Entry<I>],
-        marks: &mut [u8],
+        register: &mut Marked<'_, I>,
     ) -> Result<(), Refusal> {
         let [size, rest @ ..] = sizes else {
             return Err(Reason::BadSetting.into());
         };
-        begin(
-            &mut self.filter,
-            Settings {
-                hashing: at,
-                size: *size,
-            },
-            list,
-            marks,
-        )?;
-        turn(&self.filter, list, marks);
-        self.below.build(deeper(at), rest, list, marks)
+        let settings = Settings {
+            hashing: at,
+            size: *size,
+        };
+        register.begin(&mut self.filter, settings)?;
+        register.turn(&self.filter);
+        self.below.build(deeper(at), rest, register)
     }
 
     fn fits(&self, level: u8, room: usize) -> bool {
@@ -96,12 +91,12 @@ impl<F: Filter, D: Decider> Decider for Level<F, D> {
     }
 
     fn judge(at: Hashing, reader: &mut Reader<'_>) -> Result<(), Refusal> {
-        let _ = read_table::<F>(tag_of(at.level), at.hashes, reader)?;
+        let _ = read_table::<Loadable<F>>(tag_of(at.level), at.hashes, reader)?;
         D::judge(deeper(at), reader)
     }
 
     fn load(&mut self, at: Hashing, reader: &mut Reader<'_>) -> Result<(), Refusal> {
-        let body = read_table::<F>(tag_of(at.level), at.hashes, reader)?;
+        let body = read_table::<Loadable<F>>(tag_of(at.level), at.hashes, reader)?;
         self.filter.load(at, body)?;
         self.below.load(deeper(at), reader)
     }

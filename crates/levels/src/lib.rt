@@ -6,11 +6,12 @@ ghost use Rattle.levels.specs.Deciders.{other};
 
 use std::ops::Not;
 
-mod building;
 pub mod decider;
 pub mod end;
 pub mod level;
-mod tables;
+pub mod mark;
+pub mod marked;
+pub mod tables;
 
 /// The side of an identifier in a decider.
 #[derive(Clone, Copy, PartialEq, Eq)]

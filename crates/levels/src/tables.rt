@@ -1,11 +1,44 @@
 ghost use Rattle.std.specs.Prelude.{◌≡◌, ℕ, ◌+◌, List, length, Ok, Err, MatchResult};
 ghost use Rattle.passes.specs.Outputs.{written_to};
 ghost use Rattle.fields.specs.Fields.{field};
-ghost use Rattle.levels.specs.Deciders.{table_at, tag_of, next};
+ghost use Rattle.levels.specs.Deciders.{Table, table_of, table_in, judged_as, tag_of};
 
+use fields::in_field;
 use fields::reader::Reader;
 use filters::Filter;
 use refusals::{Reason, Refusal};
+use std::marker::PhantomData;
+
+/// What judges the body of a field that is a table: which lengths fit, and whether bytes of such a length are accepted.
+pub trait Judge {
+    ghost table: { Table };
+
+    /// Whether bytes of this length fit.
+    fn measures(len: usize) -> bool
+        ensures { result ≡ table.measures len };
+
+    /// Whether bytes of a fitting length are accepted under a hash count; the error is the reason why not.
+    fn judge(hashes: u8, body: &[u8]) -> Result<(), Reason>
+        ensures { result ≡ judged_as (table.judged hashes body.now) };
+}
+
+/// Judges as load of a kind of filter does.
+pub struct Loadable<F>(PhantomData<F>);
+
+impl<F: Filter> Judge for Loadable<F> {
+    ghost table = { table_of F.Filter.kind };
+
+    fn measures(len: usize) -> bool {
+        F::measures(len)
+    }
+
+    fn judge(hashes: u8, body: &[u8]) -> Result<(), Reason> {
+        match F::judge(hashes, body) {
+            Ok(()) => Ok(()),
+            Err(refusal) => Err(refusal.reason),
+        }
+    }
+}
 
 /// The tag of a level's field.
 pub(crate) fn tag_of(level: u8) -> u8
@@ -14,30 +47,24 @@ pub(crate) fn tag_of(level: u8) -> u8
     level.saturating_add(16)
 }
 
-/// Reads the table of a level, judged by its filter; the body is a part of the input.
-pub(crate) fn read_table<'a, F: Filter>(
+/// Reads the field of a table and judges it; the body is a part of the input.
+pub fn read_table<'a, J: Judge>(
     tag: u8,
     hashes: u8,
     reader: &mut Reader<'a>,
 ) -> Result<&'a [u8], Refusal>
     ensures verdict { MatchResult result
-        (λ b. (table_at F.Filter.kind tag hashes reader.old.input.now reader.old.at ≡ Ok b.now) × (reader.new.at ≡ reader.old.at + 3 + length b.now))
-        (λ e. table_at F.Filter.kind tag hashes reader.old.input.now reader.old.at ≡ Err e) }
+        (λ b. (table_in J.table tag hashes reader.old.input.now reader.old.at ≡ Ok b.now) × (reader.new.at ≡ reader.old.at + 3 + length b.now))
+        (λ e. table_in J.table tag hashes reader.old.input.now reader.old.at ≡ Err e) }
     ensures input { reader.new.input.now ≡ reader.old.input.now }
 {
     let header = reader.header(tag)?;
-    if !F::measures(header.len) {
-        return Err(Refusal {
-            reason: Reason::BadLength,
-            tag,
-            place: header.place,
-        });
+    if !J::measures(header.len) {
+        return Err(Reason::BadLength.at(tag, header.place));
     }
     let body = reader.body(header)?;
-    match F::judge(hashes, body) {
-        Ok(()) => Ok(body),
-        Err(refusal) => Err(refusal.in_field(tag, header.place)),
-    }
+    in_field(tag, header.place, J::judge(hashes, body))?;
+    Ok(body)
 }
 
 /// Writes a filter's table as a field to the front of the output.

@@ -13,6 +13,7 @@ use cuckoo::table::Cuckoo;
 use exact::table::ExactList;
 use levels::decider::Tabled;
 use piles::pile::Six;
+use publication_layout::known::OneTwoAnd;
 use publication_layout::reader::read_publication;
 use publications::Publication;
 use refusals::Refusal;
@@ -34,7 +35,8 @@ pub fn read_known<'a, G: Tabled>(own: u8, input: &'a [u8]) -> Result<Publication
     ensures meaning { Decides (is_ok result) (Written (known G.Decider.saves.tables own) input.now) }
     ensures law { LayoutLaw (known G.Decider.saves.tables own) }
 {
-    read_publication::<AllBloom, CuckooFirst, G>(own, input)
+    let makes = OneTwoAnd::<AllBloom, CuckooFirst, G>::new(own);
+    read_publication(&makes, input)
 }
 
 /// Reads a whole input as a publication of make 1 or 2.

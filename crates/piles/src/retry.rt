@@ -1,10 +1,12 @@
 ghost use Rattle.std.specs.Prelude.{◌≡◌, ℕ, List, length, replicate, Ok, Err, MatchResult};
-ghost use Rattle.levels.specs.Rows.{mark_of, rows, listed};
+ghost use Rattle.levels.specs.Rows.{rows, listed};
 ghost use Rattle.piles.specs.Tries.{retried, built_in, Outcome};
 
 use fields::reader::Reader;
 use filters::Hashing;
 use levels::decider::{Decider, Tabled};
+use levels::mark::Mark;
+use levels::marked::Marked;
 use levels::{Entry, Side};
 use passes::identifier::Identifier;
 use refusals::{Reason, Refusal};
@@ -27,24 +29,13 @@ pub struct Retry<D> {
     below: D,
 }
 
-/// The mark of a side.
-fn mark_of(side: Side) -> u8
-    ensures { result ≡ mark_of side }
-{
-    match side {
-        Side::For => 1,
-        Side::Against => 2,
-    }
-}
-
 /// Marks each pass by its side.
-fn mark_sides<I: Identifier>(list: &[Entry<I>], marks: &mut [u8])
-    requires { length list.now ≡ length marks.old }
-    ensures { rows I.Identifier.form list.now marks.new ≡ listed I.Identifier.form list.now }
+fn mark_sides<I: Identifier>(register: &mut Marked<'_, I>)
+    ensures { rows I.Identifier.form register.new.list.now register.new.marks.now ≡ listed I.Identifier.form register.old.list.now }
 {
-    for i in 0..list.len() {
-        let entry = &list[i];
-        marks[i] = mark_of(entry.side);
+    let marks = &mut *register.marks;
+    for (i, entry) in register.list.iter().enumerate() {
+        marks[i] = Mark::from(entry.side).into();
     }
 }
 
@@ -71,7 +62,25 @@ impl<D: Decider> Retry<D> {
         self.try_salts(at, sizes, list, &mut marks.0[0..n])
     }
 
-    /// Tries one salt after the other.
+    /// One try, at the salt given.
+    fn try_salt<I: Identifier>(
+        &mut self,
+        at: Hashing,
+        sizes: &[usize],
+        list: &[Entry<I>],
+        marks: &mut [u8],
+    ) -> Result<(), Refusal>
+        requires { length list.now ≡ length marks.old }
+        ensures { MatchResult result
+            (λ _. D.Decider.decider.build at sizes.now (listed I.Identifier.form list.now) ≡ Ok (D.Decider.state self.new.below))
+            (λ e. D.Decider.decider.build at sizes.now (listed I.Identifier.form list.now) ≡ Err e) }
+    {
+        let mut register = Marked { list, marks };
+        mark_sides(&mut register);
+        self.below.build(at, sizes, &mut register)
+    }
+
+    /// Tries one salt after the other: seven times whatever comes, and what the eighth comes to counts.
     fn try_salts<I: Identifier>(
         &mut self,
         at: Hashing,
@@ -85,26 +94,17 @@ impl<D: Decider> Retry<D> {
             (λ e. retried D.Decider.decider at sizes.now (listed I.Identifier.form list.now) 7 at.salt ≡ Err e) }
     {
         let mut salt = at.salt;
-        let mut more: u8 = 7;
-        let outcome = loop {
-            mark_sides(list, marks);
-            let here = Hashing {
-                salt,
-                level: at.level,
-                hashes: at.hashes,
-            };
-            match self.below.build(here, sizes, list, marks) {
-                Ok(()) => break Ok(salt),
-                Err(refusal) => {
-                    if more == 0 {
-                        break Err(refusal);
-                    }
-                }
+        for _ in 0..7u8 {
+            if self
+                .try_salt(Hashing { salt, ..at }, sizes, list, marks)
+                .is_ok()
+            {
+                return Ok(salt);
             }
-            more -= 1;
             salt = salt.wrapping_add(1);
-        };
-        outcome
+        }
+        self.try_salt(Hashing { salt, ..at }, sizes, list, marks)?;
+        Ok(salt)
     }
 }
 
@@ -131,10 +131,9 @@ impl<D: Decider> Decider for Retry<D> {
         &mut self,
         at: Hashing,
         sizes: &[usize],
-        list: &[Entry<I>],
-        marks: &mut [u8],
+        register: &mut Marked<'_, I>,
     ) -> Result<(), Refusal> {
-        self.below.build(at, sizes, list, marks)
+        self.below.build(at, sizes, register)
     }
 
     fn fits(&self, level: u8, room: usize) -> bool {

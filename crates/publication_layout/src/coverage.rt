@@ -1,35 +1,39 @@
 //! The coverage rows of a publication.
-ghost use Rattle.std.specs.Prelude.{◌≡◌, ◌+◌, ◌*◌, ◌/◌, ◌%◌, ◌≤◌, ◌&&◌, length, if◌then◌else◌, None, Ok, Err, MatchResult, ◌==◌, nat_le, nat_lt};
+ghost use Rattle.std.specs.Prelude.{◌≡◌, ◌*◌, ◌/◌, ◌≤◌, ◌+◌, length, if◌then◌else◌, Some, None, MatchResult, nat_lt};
+ghost use Rattle.std.specs.List.{list_any};
+ghost use Rattle.refusals.specs.declared.Reason.TheVariants.{BadValue};
 ghost use Rattle.fields.specs.Reading.{two};
-ghost use Rattle.levels.specs.Deciders.{table_in};
-ghost use Rattle.publications.specs.Reading.{row_at, same_key, repeats, rows_in, coverage_judge, JudgesAs};
+ghost use Rattle.publications.specs.Reading.{row_at, rows_in, coverage_judge, JudgesAs};
+ghost use Rattle.publications.specs.Chunks.{same_two};
 
-use fields::reader::Reader;
+use levels::tables::Judge;
 use passes::kind::PassKind;
 use publications::CoverageRow;
-use refusals::{Reason, Refusal};
+use refusals::Reason;
+
+/// How many bytes a row has.
+const ROW: usize = 7;
 
 /// The number in two bytes from a place on.
-fn two_at(bytes: &[u8], at: usize) -> u16
-    requires { at + 2 ≤ length bytes.now }
-    ensures { result ≡ two bytes.now at }
+fn two_at(row: &[u8; ROW], at: usize) -> u16
+    requires { at + 2 ≤ length row.now }
+    ensures { result ≡ two row.now at }
 {
-    u16::from_be_bytes([bytes[at], bytes[at + 1]])
+    u16::from_be_bytes([row[at], row[at + 1]])
 }
 
-/// The row of seven bytes at a place; none if it isn't allowed.
-fn row_at(rows: &[u8], at: usize) -> Option<CoverageRow>
-    requires { at + 7 ≤ length rows.now }
-    ensures { result ≡ row_at rows.now at }
+/// The row in seven bytes; one that isn't allowed is a bad value.
+fn row_in(row: &[u8; ROW]) -> Result<CoverageRow, Reason>
+    ensures { MatchResult result (λ r. row_at row.now 0 ≡ Some r) (λ e. (row_at row.now 0 ≡ None) × (e ≡ BadValue)) }
 {
-    let kind = PassKind::try_from(rows[at]).ok()?;
-    let issuer = two_at(rows, at + 1);
-    let first = two_at(rows, at + 3);
-    let last = two_at(rows, at + 5);
+    let kind = PassKind::try_from(row[0])?;
+    let issuer = two_at(row, 1);
+    let first = two_at(row, 3);
+    let last = two_at(row, 5);
     if first > last {
-        return None;
+        return Err(Reason::BadValue);
     }
-    Some(CoverageRow {
+    Ok(CoverageRow {
         kind,
         issuer,
         first,
@@ -37,81 +41,53 @@ fn row_at(rows: &[u8], at: usize) -> Option<CoverageRow>
     })
 }
 
-/// Whether the rows at two places have the same kind and issuer.
-fn same_key(rows: &[u8], x: usize, y: usize) -> bool
-    requires { (x + 3 ≤ length rows.now) × (y + 3 ≤ length rows.now) }
-    ensures { result ≡ same_key rows.now x y }
+/// Whether two rows have the same kind and issuer.
+fn same_key(x: &[u8; ROW], y: &[u8; ROW]) -> bool
+    ensures { result ≡ same_two x.now y.now }
 {
-    rows[x] == rows[y] && two_at(rows, x + 1) == two_at(rows, y + 1)
+    x[0] == y[0] && two_at(x, 1) == two_at(y, 1)
 }
 
-/// Whether the row at a place has the kind and issuer of one of the first rows.
-fn repeats(rows: &[u8], before: usize, at: usize) -> bool
-    requires { (7 * before ≤ length rows.now) × (at + 3 ≤ length rows.now) }
-    ensures { result ≡ repeats rows.now before at }
+/// Whether one of the rows before a row has its kind and issuer.
+fn repeats(before: &[[u8; ROW]], row: &[u8; ROW]) -> bool
+    ensures { result ≡ list_any (λ x. same_two x row.now) before.now }
 {
-    let mut found = false;
-    for i in 0..before {
-        found |= same_key(rows, 7 * i, at);
-    }
-    found
+    before.iter().any(|other| same_key(other, row))
 }
 
 /// Judges rows one by one: not allowed, then repeated.
-fn judge_rows(rows: &[u8]) -> Result<(), Reason>
-    ensures { JudgesAs result (rows_in rows.now) }
+fn judge_rows(bytes: &[u8]) -> Result<(), Reason>
+    ensures { JudgesAs result (rows_in bytes.now) }
 {
-    for i in 0..rows.len() / 7 {
-        if row_at(rows, 7 * i).is_none() {
-            return Err(Reason::BadValue);
-        }
-        if repeats(rows, i, 7 * i) {
+    let (rows, _) = bytes.as_chunks::<ROW>();
+    for (i, row) in rows.iter().enumerate() {
+        row_in(row)?;
+        if repeats(&rows[..i], row) {
             return Err(Reason::NotAscending);
         }
     }
     Ok(())
 }
 
-/// Whether coverage may have this length: 1 to 64 rows.
-fn measures(len: usize) -> bool
-    ensures { result ≡ (nat_le 7 len && (nat_le len 448 && len % 7 == 0)) }
-{
-    7 <= len && len <= 448 && len % 7 == 0
-}
+/// Judges coverage: 1 to 64 rows, each allowed, and no kind and issuer twice.
+pub struct Coverage;
 
-/// Reads the field of the coverage; the rows are a part of the input.
-pub(crate) fn read_coverage<'a>(hashes: u8, reader: &mut Reader<'a>) -> Result<&'a [u8], Refusal>
-    ensures verdict { MatchResult result
-        (λ b. (table_in coverage_judge 0x02 hashes reader.old.input.now reader.old.at ≡ Ok b.now) × (reader.new.at ≡ reader.old.at + 3 + length b.now))
-        (λ e. table_in coverage_judge 0x02 hashes reader.old.input.now reader.old.at ≡ Err e) }
-    ensures input { reader.new.input.now ≡ reader.old.input.now }
-{
-    let header = reader.header(0x02)?;
-    if !measures(header.len) {
-        return Err(Refusal {
-            reason: Reason::BadLength,
-            tag: 0x02,
-            place: header.place,
-        });
+impl Judge for Coverage {
+    ghost table = { coverage_judge };
+
+    fn measures(len: usize) -> bool {
+        7 <= len && len <= 448 && len % 7 == 0
     }
-    let rows = reader.body(header)?;
-    match judge_rows(rows) {
-        Ok(()) => Ok(rows),
-        Err(reason) => Err(Refusal {
-            reason,
-            tag: 0x02,
-            place: header.place,
-        }),
+
+    fn judge(_hashes: u8, body: &[u8]) -> Result<(), Reason> {
+        judge_rows(body)
     }
 }
 
 /// The coverage row at an index of the bytes of coverage rows; none if it isn't there or isn't allowed.
-pub fn coverage_row(rows: &[u8], index: usize) -> Option<CoverageRow>
-    ensures { result ≡ (if nat_lt index (length rows.now / 7) then row_at rows.now (7 * index) else None) }
+pub fn coverage_row(bytes: &[u8], index: usize) -> Option<CoverageRow>
+    ensures { result ≡ (if nat_lt index (length bytes.now / 7) then row_at bytes.now (7 * index) else None) }
 {
-    if index < rows.len() / 7 {
-        row_at(rows, 7 * index)
-    } else {
-        None
-    }
+    let (rows, _) = bytes.as_chunks::<ROW>();
+    row_in(rows.get(index)?).ok()
 }

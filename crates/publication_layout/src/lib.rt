@@ -3,4 +3,5 @@
 
 pub mod coverage;
 mod heads;
+pub mod known;
 pub mod reader;

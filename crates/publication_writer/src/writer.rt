@@ -5,8 +5,9 @@ ghost use Rattle.publications.specs.Publications.{head_field, row_bytes, rows_by
 ghost use Rattle.publications.specs.Layout.{WriterLaw};
 
 use fields::checks::seal;
+use fields::written::write_each;
 use levels::decider::{Decider, Tabled};
-use publications::{CoverageRow, PublicationHead};
+use publications::{COVERAGE, CoverageRow, HEAD, PublicationHead};
 
 /// Writes the field of the head.
 fn write_head(head: PublicationHead, out: &mut [u8])
@@ -16,7 +17,7 @@ fn write_head(head: PublicationHead, out: &mut [u8])
     let salt = head.salt.to_be_bytes();
     let number = head.number.to_be_bytes();
     out[0..12].copy_from_slice(&[
-        0x01,
+        HEAD,
         0,
         9,
         1,
@@ -31,46 +32,14 @@ fn write_head(head: PublicationHead, out: &mut [u8])
     ]);
 }
 
-/// Writes a coverage row.
-fn write_row(row: CoverageRow, out: &mut [u8])
-    requires { 7 ≤ length out.old }
-    ensures { out.new ≡ row_bytes row ++ drop 7 out.old }
-{
-    let issuer = row.issuer.to_be_bytes();
-    let first = row.first.to_be_bytes();
-    let last = row.last.to_be_bytes();
-    out[0..7].copy_from_slice(&[
-        row.kind.into(),
-        issuer[0],
-        issuer[1],
-        first[0],
-        first[1],
-        last[0],
-        last[1],
-    ]);
-}
-
-/// Writes coverage rows one behind the other, and says how many bytes they have.
-fn write_rows(rows: &[CoverageRow], out: &mut [u8]) -> usize
-    requires { length (rows_bytes rows.now) ≤ length out.old }
-    ensures { (Some result, out.new) ≡ written_to (rows_bytes rows.now) out.old }
-{
-    let mut at = 0;
-    'rows: for row in rows {
-        write_row(*row, &mut out[at..]);
-        at += 7;
-    }
-    at
-}
-
 /// Writes the field of the coverage, and says how many bytes it has.
 fn write_coverage(rows: &[CoverageRow], out: &mut [u8]) -> usize
     requires { length (coverage_field rows.now) ≤ length out.old }
     ensures { (Some result, out.new) ≡ written_to (coverage_field rows.now) out.old }
 {
     let len = (((rows.len() & 0xFFFF) * 7 & 0xFFFF) as u16).to_be_bytes();
-    out[0..3].copy_from_slice(&[0x02, len[0], len[1]]);
-    3 + write_rows(rows, &mut out[3..])
+    out[0..3].copy_from_slice(&[COVERAGE, len[0], len[1]]);
+    3 + write_each(rows, &mut out[3..])
 }
 
 /// Whether a publication with these rows and levels fits into so many bytes, under any head.

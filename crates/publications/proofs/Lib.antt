@@ -7,3 +7,4 @@ pub mod Layouts
 pub mod Answering
 pub mod Writing
 pub mod Built
+pub mod Chunks

@@ -1,6 +1,5 @@
 -- Reading a publication, step by step.
-use Rattle.std.proofs.Common.{◌≡◌, ℕ, ◌+◌, true, false, eqb, List, length, is_some, Ok, Err, Result, sym, refl, ap, ◌∙◌, ⊎_elim, arith, MatchResult}
-use Rattle.std.proofs.lemmas.Bool.{cases_Bool}
+use Rattle.std.proofs.Common.{◌≡◌, ℕ, ◌+◌, true, false, eqb, List, [], length, Ok, Err, Result, sym, refl, ap, ◌∙◌, subst, arith, MatchResult}
 use Rattle.refusals.specs.declared.Refusal.{Refusal}
 use Rattle.filters.specs.declared.Hashing.{Hashing}
 use Rattle.fields.specs.Reading.{then, check_at}
@@ -37,12 +36,21 @@ module _ (one two mine : List Table) (own make : ℕ) where
   pub make_one : eqb make own ≡ false → eqb make 1 ≡ true → known_tables (known_makes one two mine own make) ≡ one
   make_one e f = rw (e, f)
 
-  pub make_two : eqb make own ≡ false → eqb make 1 ≡ false → is_some (known_makes one two mine own make) ≡ true → known_tables (known_makes one two mine own make) ≡ two
-  make_two e f k =
-      ⊎_elim
-      (λ (g : eqb make 2 ≡ true). rw (e, f, g))
-      (λ (g : eqb make 2 ≡ false). absurd (let z : false ≡ true = rw (e, f, g) at k in let y : ⊥ = grind arith in y))
-      (cases_Bool (eqb make 2))
+  pub make_two : eqb make own ≡ false → eqb make 1 ≡ false → eqb make 2 ≡ true → known_tables (known_makes one two mine own make) ≡ two
+  make_two e f g = rw (e, f, g)
+
+  pub make_none : eqb make own ≡ false → eqb make 1 ≡ false → eqb make 2 ≡ false → known_tables (known_makes one two mine own make) ≡ []
+  make_none e f g = rw (e, f, g)
+
+module _ (ts us : List Table) (hashes : ℕ) (input : List ℕ) (at at2 : ℕ) (r : Result (Unit {0}) Refusal) where
+  -- the tables of a make are judged as those of its levels
+  pub read_as : us ≡ ts → TablesRead ts 1 hashes input at at2 r → TablesRead us 1 hashes input at at2 r
+  read_as e t = subst (λ (xs : List Table). TablesRead xs 1 hashes input at at2 r) (sym e) t
+
+-- no table is read of no make
+pub none_read : (ts : List Table) (hashes : ℕ) (input : List ℕ) (at : ℕ) → ts ≡ [] → TablesRead ts 1 hashes input at at (Ok tt)
+unfolding tables_at
+none_read ts hashes input at e = let z : at ≡ at + 0 = omega arith in ([], ap (λ (xs : List Table). tables_at xs 1 hashes input at) e, z)
 
 -- the fields one after the other
 module _ (makes : Makes) (input : List ℕ) where

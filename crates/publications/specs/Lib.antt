@@ -1,3 +1,4 @@
 pub mod Publications
 pub mod Reading
 pub mod Layout
+pub mod Chunks

@@ -1,8 +1,17 @@
 //! What a publication holds, its bytes, and the laws of their layout.
 #![tactic(auto)]
 
+ghost use Rattle.publications.specs.Publications.{row_bytes};
+
+use fields::written::Written;
 use passes::kind::PassKind;
 use std::fmt;
+
+/// The tag of the field of the head.
+pub const HEAD: u8 = 0x01;
+
+/// The tag of the field of the coverage.
+pub const COVERAGE: u8 = 0x02;
 
 /// A coverage row: the issue days of an issuer's passes of a kind that are known, from the first to the last.
 #[derive(Clone, Copy)]
@@ -20,6 +29,29 @@ impl fmt::Display for CoverageRow {
             "{} {} {} {}",
             self.kind, self.issuer, self.first, self.last
         )
+    }
+}
+
+impl Written for CoverageRow {
+    ghost bytes = { row_bytes };
+
+    fn size(&self) -> usize {
+        7
+    }
+
+    fn write(&self, out: &mut [u8]) {
+        let issuer = self.issuer.to_be_bytes();
+        let first = self.first.to_be_bytes();
+        let last = self.last.to_be_bytes();
+        out[0..7].copy_from_slice(&[
+            self.kind.into(),
+            issuer[0],
+            issuer[1],
+            first[0],
+            first[1],
+            last[0],
+            last[1],
+        ]);
     }
 }
 

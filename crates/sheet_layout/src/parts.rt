@@ -6,17 +6,12 @@ ghost use Rattle.sheets.specs.Sides.{side_of};
 ghost use Rattle.sheets.specs.Reading.{head_in, head_at, word_in, word_at, behind};
 ghost use Rattle.sheets.specs.Stages.{word_of};
 
+use fields::in_field;
 use fields::reader::Reader;
 use passes::order::precedes;
 use passes::reading::is_lawful;
 use refusals::{Reason, Refusal};
-use sheets::{SheetHead, SheetWord, Side};
-
-/// The tag of the field of the head.
-const HEAD: u8 = 0x21;
-
-/// The tag of the field of a word.
-const WORD: u8 = 0x22;
+use sheets::{HEAD, SheetHead, SheetWord, Side, WORD};
 
 /// The head in a body of 7 bytes.
 fn head_in(body: &[u8]) -> Result<SheetHead, Reason>
@@ -56,7 +51,7 @@ pub(crate) fn read_head(reader: &mut Reader<'_>) -> Result<SheetHead, Refusal>
 {
     let place = reader.place();
     let body = reader.field(HEAD, 7, 7)?;
-    head_in(body).map_err(|reason| reason.at(HEAD, place))
+    in_field(HEAD, place, head_in(body))
 }
 
 /// Reads a word, whose form has to stand above the last one.
@@ -68,5 +63,5 @@ pub(crate) fn read_word<'a>(last: &[u8], reader: &mut Reader<'a>) -> Result<Shee
 {
     let place = reader.place();
     let body = reader.field(WORD, 5, 24)?;
-    word_in(last, body).map_err(|reason| reason.at(WORD, place))
+    in_field(WORD, place, word_in(last, body))
 }

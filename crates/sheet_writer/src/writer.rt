@@ -8,7 +8,8 @@ ghost use Rattle.sheets.specs.Stages.{word_of, sheet_of};
 ghost use Rattle.sheets.specs.Layout.{LayoutLaw};
 
 use fields::checks::seal;
-use sheets::{SheetHead, SheetWord};
+use fields::written::write_each;
+use sheets::{HEAD, SheetHead, SheetWord};
 
 /// Whether a sheet with these words fits into so many bytes, under any head.
 fn has_room(words: &[SheetWord<'_>], room: usize) -> bool
@@ -33,32 +34,8 @@ fn write_head(head: SheetHead, out: &mut [u8])
     let number = head.number.to_be_bytes();
     let step = head.step.to_be_bytes();
     out[0..10].copy_from_slice(&[
-        0x21, 0, 7, 1, number[0], number[1], number[2], number[3], step[0], step[1],
+        HEAD, 0, 7, 1, number[0], number[1], number[2], number[3], step[0], step[1],
     ]);
-}
-
-/// Writes the field of a word.
-fn write_word(word: SheetWord<'_>, out: &mut [u8])
-    requires { 4 + length word.form.now ≤ length out.old }
-    ensures { out.new ≡ word_field (word_of word.entry) ++ drop (4 + length word.entry.form.now) out.old }
-{
-    let n = word.form.len();
-    let len = (((1 + n) & 0xFFFF) as u16).to_be_bytes();
-    out[0..4].copy_from_slice(&[0x22, len[0], len[1], word.side.into()]);
-    out[4..4 + n].copy_from_slice(word.form);
-}
-
-/// Writes the fields of words one behind the other, and says how many bytes they have.
-fn write_words(words: &[SheetWord<'_>], out: &mut [u8]) -> usize
-    requires { length (word_fields (map word_of words.now)) ≤ length out.old }
-    ensures { (Some result, out.new) ≡ written_to (word_fields (map word_of words.now)) out.old }
-{
-    let mut at = 0;
-    'words: for word in words {
-        write_word(*word, &mut out[at..]);
-        at += 4 + word.form.len();
-    }
-    at
 }
 
 /// Writes a sheet that fits, and says how many bytes it has.
@@ -67,7 +44,7 @@ fn fill_sheet(head: SheetHead, words: &[SheetWord<'_>], out: &mut [u8]) -> Optio
     ensures { (result, out.new) ≡ written_to (writes (sheet_of head words.now)) out.old }
 {
     write_head(head, out);
-    let end = 10 + write_words(words, &mut out[10..]);
+    let end = 10 + write_each(words, &mut out[10..]);
     seal(end, out)
 }
 

@@ -3,9 +3,18 @@
 
 ghost use Rattle.std.specs.Prelude.{◌≡◌};
 ghost use Rattle.sheets.specs.Sides.{side_byte, NamesSide};
+ghost use Rattle.sheets.specs.Sheets.{word_field};
+ghost use Rattle.sheets.specs.Stages.{word_of};
 
+use fields::written::Written;
 use refusals::Reason;
 use std::fmt;
+
+/// The tag of the field of the head.
+pub const HEAD: u8 = 0x21;
+
+/// The tag of the field of a word.
+pub const WORD: u8 = 0x22;
 
 /// What a word says of a pass. Its number is the byte that says so.
 #[derive(Clone, Copy, PartialEq, Eq)]
@@ -57,6 +66,21 @@ pub struct SheetHead {
 pub struct SheetWord<'a> {
     pub side: Side,
     pub form: &'a [u8],
+}
+
+impl Written for SheetWord<'_> {
+    ghost bytes = { λ w. word_field (word_of w) };
+
+    fn size(&self) -> usize {
+        4 + self.form.len()
+    }
+
+    fn write(&self, out: &mut [u8]) {
+        let n = self.form.len();
+        let len = (((1 + n) & 0xFFFF) as u16).to_be_bytes();
+        out[0..4].copy_from_slice(&[WORD, len[0], len[1], self.side.into()]);
+        out[4..4 + n].copy_from_slice(self.form);
+    }
 }
 
 /// What a field of a sheet holds.

@@ -2,8 +2,8 @@ use Rattle.std.proofs.Common.{◌++◌, length, drop, refl}
 use Rattle.publications.proofs.Writing.{cover_header, rows_room, coverage_wrote}
 use Rattle.publication_writer.proofs.writer.write_coverage.Goals as goal
 
-pub write_rows-requires : goal.write_rows-requires
-write_rows-requires c =
+pub write_each-requires : goal.write_each-requires
+write_each-requires c =
     let rs = c.args.rows.now in
     let out = c.args.out.now in
     let first = c.copy_from_slice.new.self in
@@ -14,4 +14,4 @@ returns c =
     let rs = c.args.rows.now in
     let out = c.args.out.now in
     let first = c.copy_from_slice.new.self in
-    coverage_wrote rs out (first ++ drop 3 out) first c.requires refl (cover_header rs (length rs) first refl (simp c.to_be_bytes-len.ensures at c.copy_from_slice.ensures.after)) c.write_rows.new.out c.write_rows.result c.write_rows.ensures
+    coverage_wrote rs out (first ++ drop 3 out) first c.requires refl (cover_header rs (length rs) first refl (simp c.to_be_bytes-len.ensures at c.copy_from_slice.ensures.after)) c.write_each.new.out c.write_each.result c.write_each.ensures

@@ -23,7 +23,7 @@ returns-in_err-head c =
     let now = c.fields.reader in
     let inv = c.fields.invariant in
     let step = c.in_err-head.ensures.step in
-    let e = p.1 ∙ at_refusal now.stage now.input.now input now.last.now now.reader.at c.fields.sheet (then (reads input) (λ s. Ok (summary s))) inv.0 inv.1 p.0 (step ∙ ap Err (sym p.2)) in
+    let e = p.1 ∙ at_refusal now.stage now.reader.input.now input now.last.now now.reader.at c.fields.sheet (then (reads input) (λ s. Ok (summary s))) inv.0 inv.1 p.0 (step ∙ ap Err (sym p.2)) in
     record { value = e; meaning = judge_decides input c.from_residual.result (bytes_from input low) e; law = layout_law }
 
 pub fields-preserved-in-Head : goal.fields-preserved-in-Head
@@ -33,7 +33,7 @@ fields-preserved-in-Head c =
     let next = c.next.new.self in
     let inv = c.fields.invariant in
     let got = c.in_ok-head.ensures in
-    let t = again_head now.stage now.input.now input now.last.now now.reader.at c.fields.sheet (then (reads input) (λ s. Ok (summary s))) inv.0 inv.1 (content_of c.in_ok-head.field-0) c.in-Head.head (standing next.stage next.last.now next.reader.at) got.step (ap content_of c.in-Head.is) inv.2 in
+    let t = again_head now.stage now.reader.input.now input now.last.now now.reader.at c.fields.sheet (then (reads input) (λ s. Ok (summary s))) inv.0 inv.1 (content_of c.in_ok-head.field-0) c.in-Head.head (standing next.stage next.last.now next.reader.at) got.step (ap content_of c.in-Head.is) inv.2 in
     (got.input ∙ inv.0, t.0, t.1)
 
 pub fields-preserved : goal.fields-preserved
@@ -43,7 +43,7 @@ fields-preserved c =
     let next = c.next.new.self in
     let inv = c.fields.invariant in
     let got = c.in_ok-head.ensures in
-    let t = again_word now.stage now.input.now input now.last.now now.reader.at c.fields.sheet (then (reads input) (λ s. Ok (summary s))) inv.0 inv.1 (content_of c.in_ok-head.field-0) (word_of c.in-Word.field-0) (standing next.stage next.last.now next.reader.at) got.step (ap content_of c.in-Word.is) inv.2 in
+    let t = again_word now.stage now.reader.input.now input now.last.now now.reader.at c.fields.sheet (then (reads input) (λ s. Ok (summary s))) inv.0 inv.1 (content_of c.in_ok-head.field-0) (word_of c.in-Word.field-0) (standing next.stage next.last.now next.reader.at) got.step (ap content_of c.in-Word.is) inv.2 in
     (got.input ∙ inv.0, t.0, t.1)
 
 pub returns-in-End : goal.returns-in-End
@@ -54,5 +54,5 @@ returns-in-End c =
     let next = c.next.new.self in
     let inv = c.fields.invariant in
     let got = c.in_ok-head.ensures in
-    let e = at_end now.stage now.input.now input now.last.now now.reader.at c.fields.sheet (then (reads input) (λ s. Ok (summary s))) inv.0 inv.1 (content_of c.in_ok-head.field-0) (standing next.stage next.last.now next.reader.at) got.step (ap content_of c.in-End.is) in
+    let e = at_end now.stage now.reader.input.now input now.last.now now.reader.at c.fields.sheet (then (reads input) (λ s. Ok (summary s))) inv.0 inv.1 (content_of c.in_ok-head.field-0) (standing next.stage next.last.now next.reader.at) got.step (ap content_of c.in-End.is) in
     record { value = e; meaning = judge_decides input (Ok c.fields.sheet) (bytes_from input low) e; law = layout_law }

@@ -6,7 +6,7 @@ use Rattle.sheet_layout.proofs.judging.judge_sheet.Given as goal
 
 abbrev pub invariant-fields : goal.invariant-fields
 invariant-fields l =
-    (l.reader.input.now ≡ l.input)
+    (l.reader.reader.input.now ≡ l.input)
     × (finish l.reader.stage l.reader.last.now l.input l.reader.reader.at l.sheet ≡ then (reads l.input) (λ s. Ok (summary s)))
     × (l.sheet.words + fields_left l.reader.stage ≤ 258)
 

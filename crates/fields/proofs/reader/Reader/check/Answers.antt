@@ -15,7 +15,7 @@ returns-then-check_in-check_of c =
     let me = c.args.self.now in
     let field = c.in_ok-body.ensures in
     record {
-      verdict = wrong_check me.at me.input.now c.in_ok-body.body.now c.field.new.self.input.now me.at c.check_in.result c.check_of.result field.verdict.0 field.input refl c.check_in.ensures c.check_of.ensures c.if-check_in-check_of.true;
+      verdict = wrong_check me.at me.input.now c.in_ok-body.body.now c.field.new.self.input.now me.at c.check_in.result c.check_of.result field.verdict.0 field.input refl c.check_in.ensures c.check_of.ensures c.if-check_in-check_of.true ∙ ap Err (sym c.at.ensures);
       input = field.input;
     }
 
@@ -26,7 +26,7 @@ returns-then-end-self c =
     let end = field.verdict in
     let l : length c.in_ok-body.body.now ≡ 4 = omega arith in
     record {
-      verdict = bytes_left me.at me.input.now c.in_ok-body.body.now c.field.new.self.input.now me.at c.check_in.result c.check_of.result field.verdict.0 field.input refl c.check_in.ensures c.check_of.ensures c.if-check_in-check_of.false c.field.new.self.at field.verdict.1 l c.if-end-self.true;
+      verdict = bytes_left me.at me.input.now c.in_ok-body.body.now c.field.new.self.input.now me.at c.check_in.result c.check_of.result field.verdict.0 field.input refl c.check_in.ensures c.check_of.ensures c.if-check_in-check_of.false c.field.new.self.at field.verdict.1 l c.if-end-self.true ∙ ap Err (sym c.at-then-end-self.ensures);
       input = field.input;
     }
 

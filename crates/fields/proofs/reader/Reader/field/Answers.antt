@@ -18,7 +18,7 @@ returns-then-header-low c =
     let me = c.args.self.now in
     let head = c.in_ok-header.ensures in
     record {
-      verdict = no_length c.args.due c.args.low c.args.high me.at me.input.now c.in_ok-header.header (sym head.value) c.then-header-low.either;
+      verdict = no_length c.args.due c.args.low c.args.high me.at me.input.now c.in_ok-header.header (sym head.value) c.then-header-low.either ∙ ap Err (sym c.at.ensures);
       input = head.input;
     }
 
