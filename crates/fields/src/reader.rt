@@ -7,6 +7,7 @@ use crate::checks::{CHECK, check_in, check_of};
 use refusals::{Reason, Refusal};
 
 /// Reads an input field by field; it stands at the first byte not read yet.
+/// That a step keeps the input is said by clauses: it joins the reader before and after, and an invariant sees one of them.
 #[derive(Drop)]
 pub struct Reader<'a> {
     input: &'a [u8],

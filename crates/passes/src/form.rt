@@ -1,7 +1,7 @@
 ghost use Rattle.std.specs.Prelude.{◌≡◌};
 ghost use Rattle.passes.specs.Forms.{spelled};
 
-/// The written form of an identifier: 4 to 23 bytes, held in place.
+/// The written form of an identifier: 4 to 23 bytes. They are held in place with their number beside them, since a gate has no heap.
 #[derive(Clone, Copy)]
 pub struct Form {
     pub(crate) len: u8,

@@ -58,6 +58,7 @@ impl<A: Tabled, B: Tabled, G: Tabled> KnownMakes for OneTwoAnd<A, B, G> {
             level: 1,
             hashes: head.hashes,
         };
+        // The levels of the makes are types, of which none can be held as a value of one kind: so a test for each.
         if head.make == self.own {
             G::judge(at, reader)
         } else if head.make == 1 {

@@ -56,6 +56,7 @@ impl Written for CoverageRow {
 }
 
 /// The head of a publication: its make, its hash count, the salt and the publication number.
+/// The make is a number and no enum, since a reader may know one of its own.
 #[derive(Clone, Copy)]
 pub struct PublicationHead {
     pub make: u8,

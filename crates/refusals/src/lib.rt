@@ -98,15 +98,6 @@ impl From<Reason> for Refusal {
     }
 }
 
-impl Refusal {
-    /// The same reason, at a field: its tag and the place of its first byte.
-    pub fn in_field(self, tag: u8, place: usize) -> Refusal
-        ensures { result ≡ refused self.reason tag place }
-    {
-        self.reason.at(tag, place)
-    }
-}
-
 impl fmt::Display for Refusal {
     fn fmt<W: fmt::Write>(&self, f: &mut fmt::Formatter<W>) -> fmt::Result {
         let number = u8::from(self.reason);
