@@ -22,13 +22,12 @@ pub fn groups_enter_in_turn() -> bool
 fn absorb(seed: u32, bytes: &[u8]) -> u32
     ensures { result ≡ absorbed seed bytes.now }
 {
+    let (groups, rest) = bytes.as_chunks::<4>();
     let mut h = seed;
-    let mut left = bytes;
-    while let [a, b, c, d, rest @ ..] = left {
-        h = fold(h, u32::from_le_bytes([*a, *b, *c, *d]));
-        left = rest;
+    for group in groups {
+        h = fold(h, u32::from_le_bytes(*group));
     }
-    match left {
+    match rest {
         [a] => h ^ mix(u32::from_le_bytes([*a, 0, 0, 0])),
         [a, b] => h ^ mix(u32::from_le_bytes([*a, *b, 0, 0])),
         [a, b, c] => h ^ mix(u32::from_le_bytes([*a, *b, *c, 0])),

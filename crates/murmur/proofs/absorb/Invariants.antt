@@ -1,10 +1,8 @@
 use mathlib.Core.Path.{◌≡◌}
-use lib.ListN.{length}
+use Prim.Native.Nat.{◌*◌}
+use lib.ListN.{drop}
 use Rattle.murmur.specs.Hash.{absorbed}
 use Rattle.murmur.proofs.absorb.Given as goal
 
-abbrev pub invariant-loop-left : goal.invariant-loop-left
-invariant-loop-left l = absorbed l.initial.h l.initial.left ≡ absorbed l.h l.left
-
-abbrev pub decreases-loop-left : goal.decreases-loop-left
-decreases-loop-left l = length l.left
+abbrev pub invariant-loop-group : goal.invariant-loop-group
+invariant-loop-group l = absorbed l.initial.h l.fn.bytes ≡ absorbed l.h (drop (l.group-index * 4) l.fn.bytes)
