@@ -1,18 +1,18 @@
 -- The Bloom filter keeps the rules of a filter.
-use Rattle.std.specs.Prelude.{◌≡◌, ℕ, zero, suc, ◌+◌, ◌*◌, ◌/◌, ◌%◌, ◌^◌, ◌<◌, ◌≤◌, true, false, ◌⊎◌, List, length, replicate, None, ◌==◌, bit_or, nat_le, slice_index, refl}
-use Rattle.std.proofs.Common.{ap, ◌∙◌, inl, inr, ⊎_elim, length-set, length-take, get_or-set_same, get_or-set_other, arith, leb-true, eqb-true, eq-eqb}
-use Rattle.std.proofs.lemmas.List.{length-replicate}
+use Rattle.std.specs.Prelude.{◌≡◌, ℕ, zero, suc, ◌+◌, ◌*◌, ◌/◌, ◌%◌, ◌^◌, ◌<◌, ◌≤◌, true, false, ◌⊎◌, List, length, replicate, bit_or, nat_le, slice_index, refl}
+use Rattle.std.proofs.Common.{ap, ◌∙◌, inl, inr, ⊎_elim, length-set, get_or-set_same, get_or-set_other, arith, leb-true, eqb-true, eq-eqb}
 use Rattle.std.proofs.Math.Nat.{div_self, zero-div}
 use Rattle.std.proofs.lemmas.Nat.{mod_below, or_shr, or_mod, or_comm, pow_pos, or_lt, pow_below}
 use Rattle.std.proofs.lemmas.Bool.{and_parts, and_from, and_right, cases_eq, cases_lt}
 use Rattle.passes.specs.Bytes.{bytes}
-use Rattle.passes.specs.ByteLaws.{bytes_at, bytes_set, bytes_zeros, bytes_take}
+use Rattle.passes.specs.ByteLaws.{bytes_at, bytes_set}
+use Rattle.passes.specs.declared.identifier.HashPair.{HashPair}
 use Rattle.filters.specs.declared.Settings.{Settings}
-use Rattle.filters.specs.Kind.{Rules, hashes_allowed, judged}
-use Rattle.filters.specs.Judged.{fitting, accepted_from}
+use Rattle.filters.specs.Kind.{Rules, hashes_allowed}
+use Rattle.filters.specs.TableRules.{slice_index-zeros, Whole, Keeps, table_rules, table_sound}
 use Rattle.bloom.specs.Bits.{bit, with_bit, position, with_all, has_all}
-use Rattle.bloom.specs.Setting.{bloom_allows, bloom_measures, first_settings}
-use Rattle.bloom.specs.Bloom.{BloomView, bloom_kind, bloom_view, pair_of}
+use Rattle.bloom.specs.Setting.{bloom_allows, bloom_measures}
+use Rattle.bloom.specs.Bloom.{BloomView, bloom_scheme, bloom_kind, bloom_view, says_pair, with_pair}
 
 bit_of : (n : ℕ) → (n % 2 ≡ 0) ⊎ (n % 2 ≡ 1)
 bit_of n = ⊎_elim (λ z. inl (omega arith)) (λ z. inr (omega arith)) (cases_lt (n % 2) 1)
@@ -88,14 +88,9 @@ module _ (a b N : ℕ) where
       let p = and_parts (has_all a b N k t) _ e in
       ⊎_elim (λ (z : j < k). each k t p.0 j z) (λ (z : k ≤ j). let q : j ≡ k = omega arith in rw q p.1) (cases_lt j k)
 
-getD_zeros : (n i : ℕ) → ◌≡◌ {A = ℕ} (slice_index (replicate n 0) i) 0
-getD_zeros zero i = refl
-getD_zeros (suc n) zero = refl
-getD_zeros (suc n) (suc i) = getD_zeros n i
-
 bit_zero : (n p : ℕ) → bit (replicate n 0) p ≡ false
 unfolding bit
-bit_zero n p = rw (getD_zeros n (p / 8), zero-div (2 ^ (p % 8)))
+bit_zero n p = rw (slice_index-zeros n (p / 8), zero-div (2 ^ (p % 8)))
 
 none_set : (a b N k n : ℕ) → 1 ≤ k → has_all a b N k (replicate n 0) ≡ false
 none_set a b N zero n l = absurd (omega arith)
@@ -106,97 +101,51 @@ pub record Ranges (size hashes : ℕ) : Type 0 where
   pub some : 1 ≤ size
   pub most : size ≤ 2048
   pub one : 1 ≤ hashes
-  pub counted : hashes_allowed hashes ≡ true
 
 pub ranges : (size hashes : ℕ) → bloom_allows size hashes ≡ true → Ranges size hashes
 ranges size hashes e =
     let p = and_parts (bloom_measures size) (hashes_allowed hashes) e in
     let q = and_parts (nat_le 1 size) (nat_le size 2048) p.0 in
     let r = and_parts (nat_le 1 hashes) (nat_le hashes 8) p.1 in
-    record { some = leb-true 1 size q.0; most = leb-true size 2048 q.1; one = leb-true 1 hashes r.0; counted = p.1 }
+    record { some = leb-true 1 size q.0; most = leb-true size 2048 q.1; one = leb-true 1 hashes r.0 }
 
--- what a sound view says
-pub record Whole (v : BloomView) : Type 0 where
-  pub allowed : bloom_allows v.settings.size v.settings.hashing.hashes ≡ true
-  pub long : length v.table ≡ v.settings.size
-  pub real : bytes v.table ≡ true
+-- a view with a hash pair's positions set
+module _ (v : BloomView) (h : HashPair) (w : Whole bloom_scheme v) where
+  put_sized : (length (with_pair v h).table ≡ v.settings.size) × (bytes (with_pair v h).table ≡ true)
+  put_sized =
+      let N = 8 * v.settings.size in
+      let k = v.settings.hashing.hashes in
+      (length_with_all h.h1 h.h2 N k v.table ∙ w.long, bytes_with_all h.h1 h.h2 N k v.table w.real)
 
-whole : (v : BloomView) → bloom_kind.sound v ≡ true → Whole v
-whole v e =
-    let p = and_parts (bloom_allows v.settings.size v.settings.hashing.hashes) _ e in
-    let q = and_parts (length v.table == v.settings.size) (bytes v.table) p.1 in
-    record { allowed = p.0; long = eqb-true _ _ q.0; real = q.1 }
+  put_has : says_pair (with_pair v h) h ≡ true
+  put_has =
+      let N = 8 * v.settings.size in
+      let k = v.settings.hashing.hashes in
+      let r = ranges v.settings.size k w.allowed in
+      let l = w.long in
+      all_from h.h1 h.h2 N k _ (has h.h1 h.h2 N v.table (omega arith) (omega arith) k)
 
-sound_from : (v : BloomView) → Whole v → bloom_kind.sound v ≡ true
-sound_from v w = and_from (bloom_allows v.settings.size v.settings.hashing.hashes) _ w.allowed (and_from (length v.table == v.settings.size) (bytes v.table) (eq-eqb _ _ w.long) w.real)
+  put_still : (g : HashPair) → says_pair v g ≡ true → says_pair (with_pair v h) g ≡ true
+  put_still g e =
+      let N = 8 * v.settings.size in
+      let k = v.settings.hashing.hashes in
+      let r = ranges v.settings.size k w.allowed in
+      let l = w.long in
+      all_from g.h1 g.h2 N k _
+      (λ j b. keeps h.h1 h.h2 N v.table (omega arith) (omega arith) k (position g.h1 g.h2 N j) (each g.h1 g.h2 N k v.table e j b))
 
-bloom_has : (v : BloomView) (x : List ℕ) → Whole v → bloom_kind.says (bloom_kind.put v x) x ≡ true
-bloom_has v x w =
-    let s = v.settings in
-    let h = pair_of s x in
-    let N = 8 * s.size in
-    let k = s.hashing.hashes in
-    let r = ranges s.size k w.allowed in
-    let l = w.long in
-    all_from h.h1 h.h2 N k _ (has h.h1 h.h2 N v.table (omega arith) (omega arith) k)
-
-bloom_still : (v : BloomView) (x y : List ℕ) → Whole v → bloom_kind.says v y ≡ true → bloom_kind.says (bloom_kind.put v x) y ≡ true
-bloom_still v x y w e =
-    let s = v.settings in
-    let h = pair_of s x in
-    let g = pair_of s y in
-    let N = 8 * s.size in
-    let k = s.hashing.hashes in
-    let r = ranges s.size k w.allowed in
-    let l = w.long in
-    all_from g.h1 g.h2 N k _
-    (λ j b. keeps h.h1 h.h2 N v.table (omega arith) (omega arith) k (position g.h1 g.h2 N j) (each g.h1 g.h2 N k v.table e j b))
-
--- bytes that are accepted have an allowed size
-pub load_allowed : (hashes : ℕ) (body : List ℕ) → judged bloom_kind hashes body ≡ None → bloom_allows (length body) hashes ≡ true
-load_allowed hashes body e = let f = fitting bloom_kind hashes body e in and_from (bloom_measures (length body)) (hashes_allowed hashes) f.measured f.counted
-
-saved_accepted : (v : BloomView) → Whole v → judged bloom_kind v.settings.hashing.hashes v.table ≡ None
-saved_accepted v w =
-    let p = and_parts (bloom_measures v.settings.size) (hashes_allowed v.settings.hashing.hashes) w.allowed in
-    accepted_from bloom_kind v.settings.hashing.hashes v.table (record { counted = p.1; measured = ap bloom_measures w.long ∙ p.0; well = refl })
-
-bloom_restored : (v : BloomView) (x : List ℕ) → Whole v → bloom_kind.says (bloom_kind.loaded v.settings.hashing v.table) x ≡ bloom_kind.says v x
-bloom_restored v x w =
-    let s = v.settings in
-    let h = pair_of s x in
-    ap (λ (n : ℕ). has_all h.h1 h.h2 (8 * n) s.hashing.hashes v.table) w.long
-
-pub bloom_rules : Rules bloom_kind
-bloom_rules = record {
-  within = λ size hashes e. let r = ranges size hashes e in (r.most, r.counted);
-  sound_blank = refl;
-  sound_cleared = λ s e. sound_from (bloom_kind.cleared s) (record { allowed = e; long = length-replicate s.size 0; real = bytes_zeros s.size });
-  sound_put = λ v x e _ _. let w = whole v e in
-      let s = v.settings in
-      let h = pair_of s x in
-      sound_from (bloom_kind.put v x) (record {
-        allowed = w.allowed;
-        long = length_with_all h.h1 h.h2 (8 * s.size) s.hashing.hashes v.table ∙ w.long;
-        real = bytes_with_all h.h1 h.h2 (8 * s.size) s.hashing.hashes v.table w.real;
-      });
-  sound_loaded = λ h body b e. sound_from (bloom_kind.loaded h body) (record { allowed = load_allowed h.hashes body e; long = refl; real = b });
-  ready_cleared = λ s e. refl;
-  ready_put = λ v x _ _ _ _. refl;
-  ready_loaded = λ h body b e. refl;
-  set = λ s e. refl;
-  kept = λ v x _ _ _ _. refl;
-  none_blank = λ x _. let h = pair_of (first_settings) x in none_set h.h1 h.h2 8 1 1 (omega arith);
-  none_cleared = λ s x e _. let h = pair_of s x in none_set h.h1 h.h2 (8 * s.size) s.hashing.hashes s.size (ranges s.size s.hashing.hashes e).one;
-  has = λ v x e _ _. bloom_has v x (whole v e);
-  still = λ v x y e _ _ _ h. bloom_still v x y (whole v e) h;
-  fits = λ v e _. let w = whole v e in (omega (arith, w.long), w.real);
-  accepted = λ v e _. saved_accepted v (whole v e);
-  under = λ h body b e. refl;
-  restored = λ v x e _ _. bloom_restored v x (whole v e);
+pub bloom_keeps : Keeps bloom_scheme
+bloom_keeps = record {
+  within = λ size e. leb-true size 2048 (and_parts (nat_le 1 size) (nat_le size 2048) e).1;
+  first = refl;
+  none = λ s h e. none_set h.h1 h.h2 (8 * s.size) s.hashing.hashes s.size (ranges s.size s.hashing.hashes e).one;
+  sized = λ v h u w e. let same : (with_pair v h).table ≡ u = cc in rw (← same) (put_sized v h w);
+  has = λ v h u w e. let same : (with_pair v h).table ≡ u = cc in rw (← same) (put_has v h w);
+  still = λ v h g u w e s. let same : (with_pair v h).table ≡ u = cc in rw (← same) (put_still v h w g s);
 }
 
+pub bloom_rules : Rules bloom_kind
+bloom_rules = table_rules bloom_scheme bloom_keeps
+
 pub bloom_sound : (s : Settings) (table : List ℕ) → length table ≡ 2048 → bytes table ≡ true → bloom_allows s.size s.hashing.hashes ≡ true → bloom_kind.sound (bloom_view s table) ≡ true
-bloom_sound s table long real ok =
-    let r = ranges s.size s.hashing.hashes ok in
-    sound_from (bloom_view s table) (record { allowed = ok; long = simp length-take (omega arith); real = bytes_take s.size table real })
+bloom_sound = table_sound bloom_scheme bloom_keeps

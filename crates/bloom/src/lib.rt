@@ -1,53 +1,20 @@
 //! The Bloom filter.
 #![tactic(auto)]
 
-ghost use Rattle.std.specs.Prelude.{◌≡◌, ℕ, ◌+◌, ◌*◌, ◌<◌, ◌≤◌, Bool, true, false, List, length};
-ghost use Rattle.bloom.specs.Bits.{position, with_all, has_all, SetsThese};
-ghost use Rattle.bloom.specs.Setting.{bloom_allows};
-ghost use Rattle.bloom.specs.Bloom.{BloomView, bloom_kind, bloom_view, with_pair};
+ghost use Rattle.std.specs.Prelude.{◌≡◌, ◌*◌, ◌<◌, true};
+ghost use Rattle.filters.specs.Memory.{view_of};
+ghost use Rattle.bloom.specs.Bits.{bit, position, SetsThese};
+ghost use Rattle.bloom.specs.Bloom.{BloomView, bloom_kind, says_pair, with_pair};
 ghost use Rattle.bloom.specs.Rules.{bloom_rules, bloom_sound};
 
-use filters::{Filter, Hashing, Settings};
+use filters::table::{MOST_BYTES, Table};
+use filters::{Filter, Hashing, Settings, allows_hashes};
 use passes::identifier::{HashPair, Identifier};
-use refusals::{Reason, Refusal};
+use refusals::Refusal;
 
 pub mod table;
 
 use table::Bloom;
-
-/// Position i of a hash pair among so many bits, in exact whole numbers.
-fn position_of(pair: HashPair, i: u8, bits: usize) -> usize
-    requires { (1 ≤ bits) × (bits ≤ 16384) }
-    ensures is { result ≡ position pair.h1 pair.h2 bits i }
-    ensures low { result < bits }
-{
-    ((pair.h1 as u64 + i as u64 * pair.h2 as u64) % bits as u64) as usize
-}
-
-/// Sets the bits of the positions 0 to k - 1 of a hash pair.
-fn set_positions(table: &mut [u8], pair: HashPair, k: u8)
-    requires { (1 ≤ length table.old) × (length table.old ≤ 2048) }
-    ensures { table.new ≡ with_all pair.h1 pair.h2 (8 * length table.old) k table.old }
-{
-    for i in 0..k {
-        let n = position_of(pair, i, 8 * table.len());
-        table[n / 8] |= 1 << (n % 8);
-    }
-}
-
-/// Whether the bits of the positions 0 to k - 1 of a hash pair are all set.
-fn has_positions(table: &[u8], pair: HashPair, k: u8) -> bool
-    requires { (1 ≤ length table.now) × (length table.now ≤ 2048) }
-    ensures { result ≡ has_all pair.h1 pair.h2 (8 * length table.now) k table.now }
-{
-    for i in 0..k {
-        let n = position_of(pair, i, 8 * table.len());
-        if table[n / 8] >> (n % 8) & 1 == 0 {
-            return false;
-        }
-    }
-    true
-}
 
 /// A put sets the bits of the identifier's positions and leaves every other bit as it was.
 pub fn put_sets_these() -> bool
@@ -56,31 +23,39 @@ pub fn put_sets_these() -> bool
     true
 }
 
-/// Whether a Bloom filter allows a table size and a hash count.
-fn allowed(size: usize, hashes: u8) -> bool
-    ensures { result ≡ bloom_allows size hashes }
-{
-    size >= 1 && size <= 2048 && hashes >= 1 && hashes <= 8
-}
-
 impl Bloom {
-    /// An empty filter under settings that are allowed.
-    fn emptied(settings: Settings) -> Bloom
-        requires { bloom_allows settings.size settings.hashing.hashes ≡ true }
-        ensures { bloom_view result.settings result.table ≡ bloom_kind.cleared settings }
+    /// Position i of a hash pair among the bits in use, in exact whole numbers.
+    fn position(&self, pair: HashPair, i: u8) -> usize
+        ensures is { result ≡ position pair.h1 pair.h2 (8 * self.now.table.settings.size) i }
+        ensures low { result < 8 * self.now.table.settings.size }
     {
-        Bloom {
-            table: [0; 2048],
-            settings,
+        let bits = 8 * self.table.settings.size as u64;
+        ((pair.h1 as u64 + i as u64 * pair.h2 as u64) % bits) as usize
+    }
+
+    /// Sets the positions of a hash pair.
+    fn set(&mut self, pair: HashPair)
+        ensures { view_of self.new.table ≡ with_pair (view_of self.old.table) pair }
+    {
+        for i in 0..self.table.settings.hashing.hashes {
+            let n = self.position(pair, i);
+            self.table.buffer[n / 8] |= 1 << (n % 8);
         }
     }
 
-    /// Sets the positions of a hash pair in the table in use.
-    fn set(&mut self, pair: HashPair)
-        ensures { bloom_view self.new.settings self.new.table ≡ with_pair (bloom_view self.old.settings self.old.table) pair }
+    /// Whether bit n of the table in use is set.
+    fn bit(&self, n: usize) -> bool
+        requires { n < 8 * self.now.table.settings.size }
+        ensures { result ≡ bit (view_of self.now.table).table n }
     {
-        let n = self.settings.size;
-        set_positions(&mut self.table[0..n], pair, self.settings.hashing.hashes);
+        self.table.front()[n / 8] >> (n % 8) & 1 == 1
+    }
+
+    /// Whether the positions of a hash pair are all set.
+    fn has(&self, pair: HashPair) -> bool
+        ensures { result ≡ says_pair (view_of self.now.table) pair }
+    {
+        (0..self.table.settings.hashing.hashes).all(|i| self.bit(self.position(pair, i)))
     }
 }
 
@@ -91,86 +66,56 @@ impl Filter for Bloom {
 
     ghost rules = { bloom_rules };
 
-    ghost view = { λ b. bloom_view b.settings b.table };
+    ghost view = { λ b. view_of b.table };
 
-    ghost sound = { λ b. bloom_sound b.settings b.table b.ok.0 b.ok.1 b.ok.2 };
+    ghost sound = { λ b. bloom_sound b.table.settings b.table.buffer b.table.real.0 b.table.real.1 b.allowed };
 
     fn blank() -> Bloom {
-        let hashing = Hashing {
-            salt: 0,
-            level: 1,
-            hashes: 1,
+        let settings = Settings {
+            hashing: Hashing::FIRST,
+            size: 1,
         };
         Bloom {
-            table: [0; 2048],
-            settings: Settings { hashing, size: 1 },
+            table: Table::new(settings),
         }
     }
 
     fn allows(size: usize, hashes: u8) -> bool {
-        allowed(size, hashes)
+        <Bloom as Filter>::measures(size) && allows_hashes(hashes)
     }
 
     fn measures(len: usize) -> bool {
-        len >= 1 && len <= 2048
+        (1..=MOST_BYTES).contains(&len)
     }
 
-    fn judge(hashes: u8, body: &[u8]) -> Result<(), Refusal> {
-        if hashes < 1 || hashes > 8 {
-            return Err(Reason::BadSetting.into());
-        }
-        if body.len() < 1 || body.len() > 2048 {
-            return Err(Reason::BadLength.into());
-        }
+    fn judge_content(_body: &[u8]) -> Result<(), Refusal> {
         Ok(())
     }
 
     fn settings(&self) -> Settings {
-        Settings {
-            hashing: self.settings.hashing,
-            size: self.settings.size,
-        }
+        self.table.settings
     }
 
-    fn clear(&mut self, settings: Settings) -> Result<(), Refusal> {
-        if !allowed(settings.size, settings.hashing.hashes) {
-            return Err(Reason::BadSetting.into());
-        }
-        *self = Bloom::emptied(settings);
-        Ok(())
+    fn saved(&self) -> &[u8] {
+        self.table.front()
+    }
+
+    fn empty(&mut self, settings: Settings) {
+        self.table = Table::new(settings);
+    }
+
+    fn take_over(&mut self, hashing: Hashing, body: &[u8]) {
+        self.table.refill(hashing, body);
     }
 
     fn put<I: Identifier>(&mut self, id: &I) -> bool {
-        let at = self.settings.hashing;
+        let at = self.table.settings.hashing;
         self.set(id.hashes(at.salt, at.level));
         true
     }
 
     fn ask<I: Identifier>(&self, id: &I) -> bool {
-        let at = self.settings.hashing;
-        let pair = id.hashes(at.salt, at.level);
-        let n = self.settings.size;
-        has_positions(&self.table[0..n], pair, at.hashes)
-    }
-
-    fn saved_len(&self) -> usize {
-        self.settings.size
-    }
-
-    fn save(&self, out: &mut [u8]) -> Option<usize> {
-        let n = self.settings.size;
-        if n > out.len() {
-            return None;
-        }
-        out[0..n].copy_from_slice(&self.table[0..n]);
-        Some(n)
-    }
-
-    fn load(&mut self, hashing: Hashing, body: &[u8]) -> Result<(), Refusal> {
-        <Bloom as Filter>::judge(hashing.hashes, body)?;
-        let n = body.len();
-        self.table[0..n].copy_from_slice(body);
-        self.settings = Settings { hashing, size: n };
-        Ok(())
+        let at = self.table.settings.hashing;
+        self.has(id.hashes(at.salt, at.level))
     }
 }

@@ -1,50 +1,92 @@
--- One turn of the loops over cells and kicks.
-use Rattle.std.proofs.Common.{◌≡◌, ℕ, zero, suc, ◌+◌, ◌-◌, ◌*◌, ◌%◌, ◌<◌, ◌≤◌, List, get_or, set, Some, None, Option, ◌∙◌, arith, eq-eqb, ne_eqb}
+-- The lowest empty cell of a bucket, and one turn of the loop of kicks.
+use Rattle.std.proofs.Common.{◌≡◌, ℕ, zero, suc, ◌+◌, ◌-◌, ◌*◌, ◌%◌, ◌<◌, ◌≤◌, true, false, eqb, List, length, get_or, set, take, drop, Some, None, Option, sym, refl, ap, ◌∙◌, ⊎_elim, length-take, arith}
+use Rattle.std.specs.Option.{option_map}
+use Rattle.std.specs.List.{position, position_from, slice_range}
+use Rattle.std.proofs.Math.Seq.{drop-cons, take-set-lt}
+use Rattle.std.proofs.lemmas.List.{get_or-take}
+use Rattle.std.proofs.lemmas.Bool.{cases_Bool}
+use Rattle.std.proofs.lemmas.Iterator.Adapters.{position_from-zero}
+use Rattle.std.proofs.lemmas.List.Quantifiers.{position-Some}
+use Rattle.filters.specs.declared.Settings.{Settings}
 use Rattle.cuckoo.specs.Cells.{put_into, or_else, kicked}
+use Rattle.cuckoo.specs.Setting.{cuckoo_allows}
+use Rattle.cuckoo.specs.Cuckoo.{buckets}
+use Rattle.cuckoo.specs.Rules.{ranges}
 
-pub into_here : (t : List ℕ) (c k f : ℕ) → 0 < k → get_or t c 0 ≡ 0 → put_into t c k f ≡ Some (set t c f)
+into_from : (t : List ℕ) (b n k f : ℕ) → b + n + k ≤ length t → put_into t (b + n) k f ≡ option_map (λ j. set t (b + j) f) (position_from (λ cell. eqb cell 0) n (take k (drop (b + n) t)))
 unfolding put_into
-into_here t c zero f l e = absurd (omega arith)
-into_here t c (suc k) f l e = rw (eq-eqb (get_or t c 0) 0 e)
+into_from t b n zero f l = refl
+into_from t b n (suc k) f l =
+    let e = drop-cons t (b + n) 0 (omega arith) in
+    let s : suc (b + n) ≡ b + (n + 1) = omega arith in
+    let p : b + n + 1 ≡ b + (n + 1) = omega arith in
+    rw e
+    (⊎_elim
+    (λ (z : eqb (get_or t (b + n) 0) 0 ≡ true). rw z refl)
+    (λ (z : eqb (get_or t (b + n) 0) 0 ≡ false). rw z (rw (p, s) (into_from t b (n + 1) k f (omega arith))))
+    (cases_Bool (eqb (get_or t (b + n) 0) 0)))
 
-into_suc : (t : List ℕ) (c k f : ℕ) → 0 < k → (get_or t c 0 ≡ 0 → ⊥) → put_into t c k f ≡ put_into t (c + 1) (k - 1) f
-unfolding put_into
-into_suc t c zero f l e = absurd (omega arith)
-into_suc t c (suc k) f l e =
-    let z : suc k - 1 ≡ k = omega arith in
-    rw (ne_eqb (get_or t c 0) 0 e, z)
+-- the lowest empty one of four cells from c on
+pub into_lowest : (t : List ℕ) (c f : ℕ) (o : Option ℕ) → c + 4 ≤ length t → o ≡ position (λ cell. eqb cell 0) (slice_range t c (c + 4)) → put_into t c 4 f ≡ option_map (λ j. set t (c + j) f) o
+into_lowest t c f o l e =
+    let z : c + 0 ≡ c = omega arith in
+    let w : c + 4 - c ≡ 4 = omega arith in
+    let place : Option ℕ → Option (List ℕ) = option_map (λ j. set t (c + j) f) in
+    let at : ℕ → ℕ → Option (List ℕ) = λ k m. place (position_from (λ cell. eqb cell 0) 0 (take k (drop m t))) in
+    ap (λ (m : ℕ). put_into t m 4 f) (sym z)
+    ∙ into_from t c 0 4 f (omega arith)
+    ∙ ap (at 4) z
+    ∙ ap (λ (k : ℕ). at k c) (sym w)
+    ∙ ap place (sym (position_from-zero (λ cell. eqb cell 0) (slice_range t c (c + 4))) ∙ sym e)
 
-pub into_next : (t : List ℕ) (at j f : ℕ) → j < 4 → (get_or t (at + j) 0 ≡ 0 → ⊥) → put_into t (at + j) (4 - j) f ≡ put_into t (at + (j + 1)) (4 - (j + 1)) f
-into_next t at j f l e =
-    let a : at + j + 1 ≡ at + (j + 1) = omega arith in
-    let b : 4 - j - 1 ≡ 4 - (j + 1) = omega arith in
-    into_suc t (at + j) (4 - j) f (omega arith) e ∙ rw (a, b)
+-- kick n of a fingerprint f from bucket i on: g is kicked out, and goes to bucket j
+module _ (mate : ℕ → ℕ → ℕ) (n i f j g : ℕ) (t u : List ℕ) where
+  pub record Kick : Type 0 where
+    pub below : n < 64
+    pub out : g ≡ get_or t (4 * i + n % 4) 0
+    pub to : j ≡ mate i g
+    pub left : u ≡ set t (4 * i + n % 4) f
 
-abbrev pub after_kick : (ℕ → ℕ → ℕ) → ℕ → ℕ → ℕ → ℕ → List ℕ → Option (List ℕ)
-after_kick mate k n i f t =
-    let c = 4 * i + n % 4 in
-    let g = get_or t c 0 in
-    let j = mate i g in
-    or_else (put_into (set t c f) (4 * j) 4 g) (kicked mate k (n + 1) j g (set t c f))
+  abbrev pub after_kick : ℕ → Option (List ℕ)
+  after_kick k = or_else (put_into u (4 * j) 4 g) (kicked mate k (n + 1) j g u)
 
-kick_suc : (mate : ℕ → ℕ → ℕ) (k n i f : ℕ) (t : List ℕ) → 0 < k → kicked mate k n i f t ≡ after_kick mate (k - 1) n i f t
-unfolding kicked
-kick_suc mate zero n i f t l = absurd (omega arith)
-kick_suc mate (suc k) n i f t l = let z : suc k - 1 ≡ k = omega arith in rw z
+  one_kick : Kick → (k : ℕ) → 0 < k → kicked mate k n i f t ≡ after_kick (k - 1)
+  unfolding kicked
+  one_kick e zero l = absurd (omega arith)
+  one_kick e (suc k) l = let z : suc k - 1 ≡ k = omega arith in rw (z, e.to, e.left, e.out)
 
-pub kick_step : (mate : ℕ → ℕ → ℕ) (n i f : ℕ) (t : List ℕ) → n < 64 → kicked mate (64 - n) n i f t ≡ after_kick mate (64 - (n + 1)) n i f t
-kick_step mate n i f t l = let z : 64 - n - 1 ≡ 64 - (n + 1) = omega arith in kick_suc mate (64 - n) n i f t (omega arith) ∙ rw z
+  next_kick : Kick → kicked mate (64 - n) n i f t ≡ after_kick (64 - (n + 1))
+  next_kick e =
+      let b = e.below in
+      let z : 64 - n - 1 ≡ 64 - (n + 1) = omega arith in
+      one_kick e (64 - n) (omega arith) ∙ ap after_kick z
 
-pub into_end : (t : List ℕ) (c f j : ℕ) → 4 ≤ j → put_into t c (4 - j) f ≡ None
-unfolding put_into
-into_end t c f j l = let z : 4 - j ≡ 0 = omega arith in rw z
+  pub kick_found : Kick → (w : List ℕ) → put_into u (4 * j) 4 g ≡ Some w → kicked mate (64 - n) n i f t ≡ Some w
+  kick_found e w h = next_kick e ∙ rw h
+
+  pub kick_on : Kick → put_into u (4 * j) 4 g ≡ None → kicked mate (64 - n) n i f t ≡ kicked mate (64 - (n + 1)) (n + 1) j g u
+  kick_on e h = next_kick e ∙ rw h
 
 pub kick_end : (mate : ℕ → ℕ → ℕ) (n i f : ℕ) (t : List ℕ) → 64 ≤ n → kicked mate (64 - n) n i f t ≡ None
 unfolding kicked
 kick_end mate n i f t l = let z : 64 - n ≡ 0 = omega arith in rw z
 
-pub kick_found : (mate : ℕ → ℕ → ℕ) (n i f : ℕ) (t u : List ℕ) → n < 64 → put_into (set t (4 * i + n % 4) f) (4 * mate i (get_or t (4 * i + n % 4) 0)) 4 (get_or t (4 * i + n % 4) 0) ≡ Some u → kicked mate (64 - n) n i f t ≡ Some u
-kick_found mate n i f t u l e = kick_step mate n i f t l ∙ rw e
+-- the cells of a bucket lie within the front of a table
+module _ (s : Settings) (ok : cuckoo_allows s.size s.hashing.hashes ≡ true) (table : List ℕ) (long : length table ≡ 2048) (i : ℕ) (low : i < buckets s) where
+  pub cells_fit : 4 * i + 4 ≤ length (take s.size table)
+  cells_fit = let r = ranges s.size s.hashing.hashes ok in simp length-take (omega arith)
 
-pub kick_on : (mate : ℕ → ℕ → ℕ) (n i f : ℕ) (t : List ℕ) → n < 64 → put_into (set t (4 * i + n % 4) f) (4 * mate i (get_or t (4 * i + n % 4) 0)) 4 (get_or t (4 * i + n % 4) 0) ≡ None → kicked mate (64 - n) n i f t ≡ kicked mate (64 - (n + 1)) (n + 1) (mate i (get_or t (4 * i + n % 4) 0)) (get_or t (4 * i + n % 4) 0) (set t (4 * i + n % 4) f)
-kick_on mate n i f t l e = kick_step mate n i f t l ∙ rw e
+  pub cell_in_use : (k : ℕ) → position (λ cell. eqb cell 0) (slice_range (take s.size table) (4 * i) (4 * i + 4)) ≡ Some k → 4 * i + k < s.size
+  cell_in_use k e =
+      let r = ranges s.size s.hashing.hashes ok in
+      let p = (position-Some (λ cell. eqb cell 0) (slice_range (take s.size table) (4 * i) (4 * i + 4)) k 0 e).0 in
+      let l = length-take (4 * i + 4 - 4 * i) (drop (4 * i) (take s.size table)) in
+      omega arith
+
+  pub cell_kicked : (n : ℕ) → 4 * i + n % 4 < s.size
+  cell_kicked n = let r = ranges s.size s.hashing.hashes ok in omega arith
+
+-- a kick in the front of a table
+pub kick_in_front : (mate : ℕ → ℕ → ℕ) (size n i f j g : ℕ) (table : List ℕ) → n < 64 → 4 * i + n % 4 < size → (j ≡ mate i (get_or table (4 * i + n % 4) 0)) × (g ≡ get_or table (4 * i + n % 4) 0) → Kick mate n i f j g (take size table) (take size (set table (4 * i + n % 4) f))
+kick_in_front mate size n i f j g table below low at =
+    record { below = below; out = at.1 ∙ sym (get_or-take size table (4 * i + n % 4) 0 low); to = at.0 ∙ ap (mate i) (sym at.1); left = take-set-lt size table (4 * i + n % 4) f low }

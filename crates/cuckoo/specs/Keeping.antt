@@ -23,7 +23,7 @@ stands_new : (t : List ℕ) (i f j : ℕ) → j < 4 → 4 * i + j < length t →
 stands_new t i f j l w = (j, l, rw length-set w, get_or-set_same t (4 * i + j) f 0 w)
 
 nothing : {A : Type 0} (a : A) → ◌≡◌ {A = Option A} None (Some a) → ⊥
-nothing a h = let z : ◌≡◌ {A = ℕ} 0 1 = cc in omega arith
+nothing a h = cc
 
 -- where put_into wrote
 into_some : (t : List ℕ) (c k f : ℕ) (u : List ℕ) → put_into t c k f ≡ Some u → (m : ℕ) × (m < k) × (slice_index t (c + m) ≡ 0) × (u ≡ slice_set t (c + m) f)

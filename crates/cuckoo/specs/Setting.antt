@@ -1,6 +1,5 @@
 -- The settings that a cuckoo filter allows.
 use Rattle.std.specs.Prelude.{ℕ, Bool, ◌&&◌, nat_le}
-use Rattle.filters.specs.declared.Settings.{Settings}
 use Rattle.filters.specs.Kind.{hashes_allowed}
 use Rattle.cuckoo.specs.Powers.{power_of_two}
 
@@ -10,7 +9,3 @@ cuckoo_measures size = nat_le 4 size && (nat_le size 2048 && power_of_two size)
 
 abbrev pub cuckoo_allows : ℕ → ℕ → Bool
 cuckoo_allows size hashes = cuckoo_measures size && hashes_allowed hashes
-
--- before any clear
-abbrev pub first_settings : Settings
-first_settings = record { hashing = record { salt = 0; level = 1; hashes = 1 }; size = 4 }

@@ -1,139 +1,143 @@
-ghost use Rattle.std.specs.Prelude.{◌≡◌, ℕ, ◌+◌, ◌*◌, ◌%◌, ◌^◌, ◌<◌, ◌≤◌, Bool, true, false, List, length, take};
-ghost use Rattle.cuckoo.specs.Cells.{fingerprint, spread, partner, holds, put_into, kicked, settled, stands, stored};
-ghost use Rattle.cuckoo.specs.Tried.{tried, after_store};
+ghost use Rattle.std.specs.Prelude.{◌≡◌, ◌+◌, ◌*◌, ◌<◌, slice_range, position, ◌==◌};
+ghost use Rattle.filters.specs.Memory.{view_of};
+ghost use Rattle.filters.specs.Tables.{after_try};
+ghost use Rattle.cuckoo.specs.Cells.{fingerprint, partner, holds, put_into, kicked, settled, stands, stored};
+ghost use Rattle.cuckoo.specs.Cuckoo.{buckets, bucket_of};
+ghost use Rattle.cuckoo.specs.Tried.{tried};
 
+use crate::table::Cuckoo;
 use passes::identifier::HashPair;
 
-/// Where an identifier belongs: its first bucket and its fingerprint.
+/// How many cells a bucket has.
+pub(crate) const BUCKET_SIZE: usize = 4;
+
+/// How often fingerprints are kicked on before a put gives up.
+const MOST_KICKS: usize = 64;
+
+/// A fingerprint, and a bucket for it.
 #[derive(Clone, Copy)]
 pub(crate) struct Place {
-    pub(crate) bucket: usize,
-    pub(crate) fingerprint: u8,
+    bucket: usize,
+    fingerprint: u8,
 }
 
-/// The place of a hash pair among b buckets.
-pub(crate) fn place_of(pair: HashPair, b: usize) -> Place
-    requires { (1 ≤ b) × (b ≤ 512) }
-    ensures { (result.bucket ≡ pair.h1 % b) × (result.fingerprint ≡ fingerprint pair.h2) }
-{
-    Place {
-        bucket: pair.h1 as usize % b,
-        fingerprint: 1 + (pair.h2 % 255) as u8,
+impl Cuckoo {
+    /// The fingerprint of a hash pair, and its first bucket.
+    pub(crate) fn place(&self, pair: HashPair) -> Place
+        ensures is { (result.bucket ≡ bucket_of self.now.table.settings pair) × (result.fingerprint ≡ fingerprint pair.h2) }
+        ensures low { result.bucket < buckets self.now.table.settings }
+    {
+        Place {
+            bucket: pair.h1 as usize % (self.table.settings.size / BUCKET_SIZE),
+            fingerprint: 1 + (pair.h2 % 255) as u8,
+        }
     }
-}
 
-/// The partner of bucket i for a fingerprint, among b buckets.
-pub(crate) fn partner_of(b: usize, i: usize, f: u8) -> usize
-    requires { (((k : ℕ) × (b ≡ 2 ^ k))) × ((i < b) × (b ≤ 512)) }
-    ensures is { result ≡ partner b i f }
-    ensures low { result < b }
-{
-    i ^ ((f as u32).wrapping_mul(0x5BD1_E995) as usize % b)
-}
+    /// The same fingerprint, and the partner of its bucket.
+    fn partner(&self, at: Place) -> Place
+        requires { at.bucket < buckets self.now.table.settings }
+        ensures is { (result.bucket ≡ partner (buckets self.now.table.settings) at.bucket at.fingerprint) × (result.fingerprint ≡ at.fingerprint) }
+        ensures low { result.bucket < buckets self.now.table.settings }
+    {
+        let spread = (at.fingerprint as u32).wrapping_mul(0x5BD1_E995) as usize;
+        Place {
+            bucket: at.bucket ^ (spread % (self.table.settings.size / BUCKET_SIZE)),
+            fingerprint: at.fingerprint,
+        }
+    }
 
-/// Whether one of the four cells from `at` on holds a fingerprint.
-pub(crate) fn holds_in(cells: &[u8], at: usize, f: u8) -> bool
-    requires { at + 4 ≤ length cells.now }
-    ensures { result ≡ holds cells.now at 4 f }
-{
-    cells[at] == f || cells[at + 1] == f || cells[at + 2] == f || cells[at + 3] == f
-}
+    /// The cells of a bucket.
+    fn bucket(&self, i: usize) -> &[u8]
+        requires { i < buckets self.now.table.settings }
+        ensures { result.now ≡ slice_range (view_of self.now.table).table (4 * i) (4 * i + 4) }
+    {
+        let first = BUCKET_SIZE * i;
+        &self.table.front()[first..first + BUCKET_SIZE]
+    }
 
-/// Puts a fingerprint into the lowest empty one of the four cells from `at` on.
-fn put_into(cells: &mut [u8], at: usize, f: u8) -> bool
-    requires { at + 4 ≤ length cells.old }
-    ensures put { put_into cells.old at 4 f ≡ tried result cells.new }
-    ensures kept { result ≡ false → cells.new ≡ cells.old }
-{
-    for k in 0..4 {
-        let c = at + k;
-        if cells[c] == 0 {
-            cells[c] = f;
+    /// Whether a fingerprint stands in its bucket.
+    fn holds(&self, at: Place) -> bool
+        requires { at.bucket < buckets self.now.table.settings }
+        ensures { result ≡ holds (view_of self.now.table).table (4 * at.bucket) 4 at.fingerprint }
+    {
+        self.bucket(at.bucket).contains(&at.fingerprint)
+    }
+
+    /// Which cell of a bucket is the lowest empty one.
+    fn empty_cell(&self, i: usize) -> Option<usize>
+        requires { i < buckets self.now.table.settings }
+        ensures { result ≡ position (λ cell. cell == 0) (slice_range (view_of self.now.table).table (4 * i) (4 * i + 4)) }
+    {
+        self.bucket(i).iter().position(|&cell| cell == 0)
+    }
+
+    /// Puts a fingerprint into the lowest empty cell of its bucket, and says whether there was one.
+    fn fill(&mut self, at: Place) -> bool
+        requires { at.bucket < buckets self.old.table.settings }
+        ensures { (result, view_of self.new.table) ≡ after_try (put_into (view_of self.old.table).table (4 * at.bucket) 4 at.fingerprint) (view_of self.old.table) }
+    {
+        let Some(k) = self.empty_cell(at.bucket) else {
+            return false;
+        };
+        self.table.buffer[BUCKET_SIZE * at.bucket + k] = at.fingerprint;
+        true
+    }
+
+    /// Whether a fingerprint stands in its bucket or the partner.
+    pub(crate) fn stands(&self, at: Place) -> bool
+        requires { at.bucket < buckets self.now.table.settings }
+        ensures { result ≡ stands (partner (buckets self.now.table.settings)) (view_of self.now.table).table at.bucket at.fingerprint }
+    {
+        self.holds(at) || self.holds(self.partner(at))
+    }
+
+    /// Puts a fingerprint into an empty cell of its bucket, else of the partner.
+    fn settle(&mut self, at: Place) -> bool
+        requires { at.bucket < buckets self.old.table.settings }
+        ensures { (result, view_of self.new.table) ≡ after_try (settled (partner (buckets self.old.table.settings)) (view_of self.old.table).table at.bucket at.fingerprint) (view_of self.old.table) }
+    {
+        if self.fill(at) {
             return true;
         }
+        let other = self.partner(at);
+        self.fill(other)
     }
-    false
-}
 
-/// Puts a fingerprint into an empty cell of bucket i, else of its partner.
-pub(crate) fn settle(cells: &mut [u8], b: usize, i: usize, f: u8) -> bool
-    requires { (((k : ℕ) × (b ≡ 2 ^ k))) × ((i < b) × ((b ≤ 512) × (length cells.old ≡ 4 * b))) }
-    ensures put { settled (partner b) cells.old i f ≡ tried result cells.new }
-    ensures kept { result ≡ false → cells.new ≡ cells.old }
-{
-    if put_into(cells, 4 * i, f) {
-        return true;
-    }
-    let j = partner_of(b, i, f);
-    put_into(cells, 4 * j, f)
-}
-
-/// Kicks fingerprints on from bucket `first`, at most 64 times, until one finds an empty cell.
-pub(crate) fn kick(cells: &mut [u8], b: usize, first: usize, print: u8) -> bool
-    requires { (((k : ℕ) × (b ≡ 2 ^ k))) × ((first < b) × ((b ≤ 512) × (length cells.old ≡ 4 * b))) }
-    ensures { kicked (partner b) 64 0 first print cells.old ≡ tried result cells.new }
-{
-    let mut i = first;
-    let mut f = print;
-    let mut found = false;
-    'search: for n in 0..64 {
-        let c = 4 * i + n % 4;
-        let carried = cells[c];
-        cells[c] = f;
-        f = carried;
-        i = partner_of(b, i, f);
-        let at = 4 * i;
-        for j in 0..4 {
-            if cells[at + j] == 0 {
-                cells[at + j] = f;
-                found = true;
-                break 'search;
+    /// Kicks fingerprints on from a bucket, until one finds an empty cell or the kicks are used up.
+    fn kick(&mut self, first: Place) -> bool
+        requires { first.bucket < buckets self.old.table.settings }
+        ensures put { kicked (partner (buckets self.old.table.settings)) 64 0 first.bucket first.fingerprint (view_of self.old.table).table ≡ tried result (view_of self.new.table).table }
+        ensures kept { self.new.table.settings ≡ self.old.table.settings }
+    {
+        let mut at = first;
+        for n in 0..MOST_KICKS {
+            let cell = BUCKET_SIZE * at.bucket + n % BUCKET_SIZE;
+            let kicked = self.table.buffer[cell];
+            self.table.buffer[cell] = at.fingerprint;
+            at = self.partner(Place {
+                bucket: at.bucket,
+                fingerprint: kicked,
+            });
+            if self.fill(at) {
+                return true;
             }
         }
+        false
     }
-    found
-}
 
-/// Whether a fingerprint stands in bucket i or its partner.
-pub(crate) fn stands_in(cells: &[u8], b: usize, i: usize, f: u8) -> bool
-    requires { (((k : ℕ) × (b ≡ 2 ^ k))) × ((i < b) × ((b ≤ 512) × (length cells.now ≡ 4 * b))) }
-    ensures { result ≡ stands (partner b) cells.now i f }
-{
-    if holds_in(cells, 4 * i, f) {
-        return true;
+    /// Puts a fingerprint, and says whether it was taken; one that isn't leaves every cell as it was.
+    pub(crate) fn store(&mut self, at: Place) -> bool
+        requires { at.bucket < buckets self.old.table.settings }
+        ensures { (result, view_of self.new.table) ≡ after_try (stored (partner (buckets self.old.table.settings)) (view_of self.old.table).table at.bucket at.fingerprint) (view_of self.old.table) }
+    {
+        if self.stands(at) || self.settle(at) {
+            return true;
+        }
+        let before = self.table.buffer;
+        if self.kick(at) {
+            return true;
+        }
+        self.table.buffer = before;
+        false
     }
-    let j = partner_of(b, i, f);
-    holds_in(cells, 4 * j, f)
-}
-
-/// The cells, kept aside.
-fn copy_of(cells: &[u8]) -> [u8; 2048]
-    requires { length cells.now ≤ 2048 }
-    ensures front { take (length cells.now) result ≡ cells.now }
-    ensures len { length result ≡ 2048 }
-{
-    let n = cells.len();
-    let mut copy = [0; 2048];
-    copy[0..n].copy_from_slice(cells);
-    copy
-}
-
-/// Puts a fingerprint at bucket i, and says whether it was taken; one that isn't leaves every cell as it was.
-pub(crate) fn store(cells: &mut [u8], b: usize, i: usize, f: u8) -> bool
-    requires { (((k : ℕ) × (b ≡ 2 ^ k))) × ((i < b) × ((b ≤ 512) × (length cells.old ≡ 4 * b))) }
-    ensures { (result, cells.new) ≡ after_store (stored (partner b) cells.old i f) cells.old }
-{
-    if stands_in(cells, b, i, f) {
-        return true;
-    }
-    if settle(cells, b, i, f) {
-        return true;
-    }
-    let n = cells.len();
-    let before = copy_of(cells);
-    if kick(cells, b, i, f) {
-        return true;
-    }
-    cells.copy_from_slice(&before[0..n]);
-    false
 }

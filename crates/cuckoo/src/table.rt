@@ -1,13 +1,11 @@
-ghost use Rattle.std.specs.Prelude.{◌≡◌, true, length};
-ghost use Rattle.passes.specs.Bytes.{bytes};
+ghost use Rattle.std.specs.Prelude.{◌≡◌, true};
 ghost use Rattle.cuckoo.specs.Setting.{cuckoo_allows};
 
-use filters::Settings;
+use filters::table::Table;
 
-/// A cuckoo filter: buckets of four one-byte cells, in a table of which the front is in use.
+/// A cuckoo filter: buckets of four one-byte cells, in a table.
 #[derive(Drop)]
 pub struct Cuckoo {
-    pub(crate) cells: [u8; 2048],
-    pub(crate) settings: Settings,
-    ghost ok: { (length cells ≡ 2048) × (bytes cells ≡ true) × (cuckoo_allows settings.size settings.hashing.hashes ≡ true) },
+    pub(crate) table: Table,
+    ghost allowed: { cuckoo_allows table.settings.size table.settings.hashing.hashes ≡ true },
 }

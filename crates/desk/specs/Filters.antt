@@ -16,10 +16,10 @@ pub data AnyView : Type 0 where
   an_exact : ExactView → AnyView
 
 abbrev pub bloom_means : BloomTable → BloomView
-bloom_means b = bloom_view b.settings b.table
+bloom_means b = bloom_view b.table.settings b.table.buffer
 
 abbrev pub cuckoo_means : CuckooTable → CuckooView
-cuckoo_means c = cuckoo_view c.settings c.cells
+cuckoo_means c = cuckoo_view c.table.settings c.table.buffer
 
 abbrev pub exact_means : ExactList → ExactView
 exact_means e = exact_view e.hashing (take e.len e.table)

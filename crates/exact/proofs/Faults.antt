@@ -26,10 +26,10 @@ pub record Fault (room : ℕ) (last body : List ℕ) : Type 0 where
   pub packed : pack forms ++ (row next ++ more) ≡ body
 
 apart_fine : fine ≡ unsorted → ⊥
-apart_fine e = let z : ◌≡◌ {A = ℕ} 0 1 = cc in omega arith
+apart_fine e = cc
 
 apart : misvalued ≡ unsorted → ⊥
-apart e = let z : ◌≡◌ {A = ℕ} 0 1 = cc in omega arith
+apart e = cc
 
 passed : (b : Bool) (x : Content) → cond b x misvalued ≡ unsorted → (b ≡ true) × (x ≡ unsorted)
 passed true x e = (refl, e)

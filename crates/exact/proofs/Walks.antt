@@ -1,14 +1,13 @@
 -- The steps of a walk over rows.
-use Rattle.std.proofs.Common.{◌≡◌, ℕ, zero, suc, ◌+◌, ◌-◌, ◌<◌, ◌≤◌, min, Bool, true, false, cond, ◌&&◌, ◌||◌, List, [], ◌∷◌, length, get_or, take, drop, Decides, sym, refl, ap, ◌∙◌, ⊎_elim, arith}
+use Rattle.std.proofs.Common.{◌≡◌, ℕ, zero, suc, ◌+◌, ◌-◌, ◌<◌, ◌≤◌, min, true, false, cond, ◌&&◌, List, [], ◌∷◌, length, get_or, take, drop, map, sum, sym, refl, ap, ◌∙◌, ⊎_elim, arith}
 use Rattle.std.proofs.lemmas.List.{take_all, drop_all, drop-drop, take_rest, length-drop, length-take}
-use Rattle.std.proofs.lemmas.Slice.Eq.{bytes_eq-Decides}
-use Rattle.std.proofs.lemmas.Bool.{cases_lt, cond-true, cond-false, or_left, and_left, and_right, and_from}
-use Rattle.std.proofs.lemmas.Bool.Decides.{same_from_decides}
-use Rattle.std.specs.Str.{bytes_eq}
+use Rattle.std.proofs.lemmas.List.Sums.{sum_by-cons, sum-map}
+use Rattle.std.proofs.lemmas.Bool.{cases_lt, cases_Bool, cond_both, cond-true, cond-false, and_left, and_right, and_from}
+use Rattle.std.specs.List.{prefix_len, sum_by}
 use Rattle.passes.specs.Order.{before}
 use Rattle.passes.specs.Lawful.{lawful}
 use Rattle.filters.specs.Kind.{fine, misvalued, unsorted}
-use Rattle.exact.specs.Rows.{first_form, behind_first, forms_of, stands, place, whole, judge_from}
+use Rattle.exact.specs.Rows.{first_form, behind_first, first_forms, forms_of, place, whole, judge_from}
 use Rattle.exact.specs.RowLaws.{forms_step}
 
 -- the first row of a slice, its end held within the slice
@@ -31,33 +30,8 @@ pub forms_first : (rows : List ℕ) → 1 ≤ length rows → forms_of rows ≡ 
 forms_first [] l = absurd (omega arith)
 forms_first (k ∷ rest) l = forms_step k rest
 
--- what is behind a row is shorter
-pub shorter : (rows : List ℕ) → 1 ≤ length rows → length (behind_first rows) < length rows
-shorter rows l = let a = length-drop 1 rows in let b = length-drop (get_or rows 0 0) (drop 1 rows) in omega arith
-
-pub row_length : (rows : List ℕ) → 1 ≤ length rows → length rows ≡ suc (length (first_form rows)) + length (behind_first rows)
-row_length rows l =
-    let a = length-drop 1 rows in
-    let b = length-drop (get_or rows 0 0) (drop 1 rows) in
-    let d = length-take (get_or rows 0 0) (drop 1 rows) in
-    omega arith
-
-module _ (x rows : List ℕ) (l : 1 ≤ length rows) where
-  pub stands_here : bytes_eq (first_form rows) x ≡ true → stands x (forms_of rows) ≡ true
-  stands_here e = ap (stands x) (forms_first rows l) ∙ or_left (bytes_eq (first_form rows) x) (stands x (forms_of (behind_first rows))) e
-
-  pub stands_further : bytes_eq (first_form rows) x ≡ false → stands x (forms_of (behind_first rows)) ≡ stands x (forms_of rows)
-  stands_further e = sym (ap (stands x) (forms_first rows l) ∙ ap (λ (b : Bool). b || stands x (forms_of (behind_first rows))) e)
-
-  pub place_here : before (first_form rows) x ≡ false → place x (forms_of rows) ≡ 0
-  place_here e = ap (place x) (forms_first rows l) ∙ cond-false (before (first_form rows) x) _ 0 e
-
-  pub place_further : before (first_form rows) x ≡ true → place x (forms_of rows) ≡ suc (length (first_form rows)) + place x (forms_of (behind_first rows))
-  place_further e = ap (place x) (forms_first rows l) ∙ cond-true (before (first_form rows) x) _ 0 e
-
--- what a comparison of two forms tells
-pub same_test : (here first x : List ℕ) (r : Bool) → here ≡ first → Decides r (here ≡ x) → bytes_eq first x ≡ r
-same_test here first x r e d = ap (λ (f : List ℕ). bytes_eq f x) (sym e) ∙ same_from_decides (bytes_eq here x) r (bytes_eq-Decides here x) d
+pub forms_split : (rows form rest : List ℕ) → 1 ≤ length rows → form ≡ first_form rows → rest ≡ behind_first rows → forms_of rows ≡ form ∷ forms_of rest
+forms_split rows form rest l e d = rw (e, d) (forms_first rows l)
 
 full_at : (last rows : List ℕ) → 1 ≤ length rows → judge_from zero last rows ≡ misvalued
 unfolding judge_from
@@ -105,3 +79,42 @@ pub judge_end : (room : ℕ) (last : List ℕ) → judge_from room last [] ≡ f
 unfolding judge_from
 judge_end zero last = refl
 judge_end (suc room) last = refl
+
+few : (n : ℕ) (rows : List ℕ) → length rows ≤ n → length (first_forms n rows) ≤ n
+few zero rows l = omega arith
+few (suc n) [] l = omega arith
+few (suc n) (k ∷ rest) l = let h = few n (drop k rest) (let d = length-drop k rest in omega arith) in omega arith
+
+-- no more forms than bytes
+pub forms_few : (rows : List ℕ) → length (forms_of rows) ≤ length rows
+forms_few rows = few (length rows) rows (omega arith)
+
+by_before : (x : List ℕ) (fs : List (List ℕ)) → sum_by (λ f. 1 + length f) (take (prefix_len (λ f. before f x) fs) fs) ≡ place x fs
+by_before x [] = refl
+by_before x (f ∷ fs) =
+    ⊎_elim
+    (λ (e : before f x ≡ true).
+    let n = prefix_len (λ f. before f x) fs in
+    let z : 1 + n ≡ suc n = omega arith in
+    let c = sum_by-cons (λ f. 1 + length f) f (take n fs) in
+    let h = by_before x fs in
+    let p : sum_by (λ f. 1 + length f) (f ∷ take n fs) ≡ suc (length f) + place x fs = omega arith in
+    rw (e, z) p)
+    (λ (e : before f x ≡ false). rw e refl)
+    (cases_Bool (before f x))
+
+-- the bytes of the rows in front of a place, added up
+pub sum_before : (x : List ℕ) (fs : List (List ℕ)) → sum (map (λ f. 1 + length f) (take (prefix_len (λ f. before f x) fs) fs)) ≡ place x fs
+sum_before x fs = sum-map (λ f. 1 + length f) (take (prefix_len (λ f. before f x) fs) fs) ∙ by_before x fs
+
+place_low : (n : ℕ) (x rows : List ℕ) → length rows ≤ n → place x (first_forms n rows) ≤ length rows
+place_low zero x rows l = omega arith
+place_low (suc n) x [] l = omega arith
+place_low (suc n) x (k ∷ rest) l =
+    let d = length-drop k rest in
+    let t = length-take k rest in
+    let h = place_low n x (drop k rest) (omega arith) in
+    cond_both (before (take k rest) x) (suc (length (take k rest)) + place x (first_forms n (drop k rest))) 0 (λ (m : ℕ). m ≤ suc (length rest)) (λ e. omega arith) (λ e. omega arith)
+
+pub place_rows : (x rows : List ℕ) → place x (forms_of rows) ≤ length rows
+place_rows x rows = place_low (length rows) x rows (omega arith)

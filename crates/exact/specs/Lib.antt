@@ -4,3 +4,4 @@ pub mod Adding
 pub mod Exact
 pub mod Rules
 pub mod Packing
+pub mod Memory

@@ -1,6 +1,7 @@
 -- Rows: written forms packed one behind the other, each behind its length.
-use Rattle.std.specs.Prelude.{ℕ, zero, suc, ◌+◌, Bool, true, false, cond, ◌&&◌, ◌||◌, List, [], ◌∷◌, ◌++◌, length, take, drop, nat_le, slice_index}
+use Rattle.std.specs.Prelude.{ℕ, zero, suc, ◌+◌, Bool, true, cond, ◌&&◌, List, [], ◌∷◌, ◌++◌, length, take, drop, nat_le, slice_index}
 use Rattle.std.specs.Str.{bytes_eq}
+use Rattle.std.specs.List.{list_any}
 use Rattle.passes.specs.Lawful.{lawful}
 use Rattle.passes.specs.Order.{before}
 use Rattle.filters.specs.Kind.{Content, fine, misvalued, unsorted}
@@ -31,8 +32,7 @@ forms_of body = first_forms (length body) body
 
 -- whether a form is among those that stand
 abbrev pub stands : List ℕ → List (List ℕ) → Bool
-stands x [] = false
-stands x (f ∷ fs) = bytes_eq f x || stands x fs
+stands x fs = list_any (λ f. bytes_eq f x) fs
 
 -- a form added behind those before it
 abbrev pub added : List ℕ → List (List ℕ) → List (List ℕ)

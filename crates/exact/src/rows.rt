@@ -1,18 +1,20 @@
 //! Rows: written forms packed one behind the other, each behind its length.
-ghost use Rattle.std.specs.Prelude.{◌≡◌, ◌+◌, ◌<◌, ◌≤◌, true, false, [], ◌++◌, length, take, drop, is_ok, Decides, MatchOption, slice_index};
+ghost use Rattle.std.specs.Prelude.{◌≡◌, ◌+◌, ◌≤◌, [], ◌∷◌, ◌++◌, length, take, drop, is_ok, Decides, MatchOption, slice_index};
+ghost use Rattle.std.specs.Iterator.{YieldsFirstRef, item_count};
 ghost use Rattle.passes.specs.Order.{before};
 ghost use Rattle.filters.specs.Kind.{content_reason};
 ghost use Rattle.filters.specs.Answers.{answered};
 ghost use Rattle.exact.specs.Rows.{row, first_form, behind_first, forms_of, stands, place, whole, judge_rows};
 ghost use Rattle.exact.specs.Packing.{Packing, PackingLaw};
 
-use passes::order::compare;
+use crate::table::MOST_ROWS;
+use passes::order::precedes;
 use passes::reading::is_lawful;
 use refusals::{Reason, Refusal};
 
 /// The form of the first row and what is behind the row; none if there is no row.
 fn split_row(rows: &[u8]) -> Option<(&[u8], &[u8])>
-    ensures { MatchOption result (rows.now ≡ []) (λ p. (p.0.now ≡ first_form rows.now) × (p.1.now ≡ behind_first rows.now) × (1 ≤ length rows.now)) }
+    ensures { MatchOption result (rows.now ≡ []) (λ p. (p.0.now ≡ first_form rows.now) × (p.1.now ≡ behind_first rows.now) × (1 ≤ length rows.now) × (forms_of rows.now ≡ p.0.now ∷ forms_of p.1.now)) }
 {
     if rows.len() == 0 {
         return None;
@@ -27,14 +29,7 @@ fn is_whole(rows: &[u8]) -> bool
     ensures { result ≡ whole (slice_index rows.now 0) (drop 1 rows.now) }
 {
     let n = rows[0] as usize;
-    n >= 4 && n <= 23 && n < rows.len()
-}
-
-/// Whether a form stands before another.
-fn precedes(x: &[u8], y: &[u8]) -> bool
-    ensures { result ≡ before x.now y.now }
-{
-    compare(x, y).is_lt()
+    (4..=23).contains(&n) && n < rows.len()
 }
 
 /// Judges rows: at most 64, each whole and lawful, and in ascending order.
@@ -43,9 +38,10 @@ pub fn judge_rows(body: &[u8]) -> Result<(), Refusal>
     ensures meaning { Decides (is_ok result) (Packing body.now) }
     ensures law { PackingLaw }
 {
+    // No `Rows` here: whether a row is cut short shows in what is left of the body, and not in its form.
     let mut left = body;
     let mut last = &body[0..0];
-    let mut room: usize = 64;
+    let mut room = MOST_ROWS;
     'rows: while let Some((form, rest)) = split_row(left) {
         if room == 0 || !is_whole(left) || !is_lawful(form) {
             return Err(Reason::BadValue.into());
@@ -60,45 +56,46 @@ pub fn judge_rows(body: &[u8]) -> Result<(), Refusal>
     Ok(())
 }
 
+/// Goes over the forms of rows; of a row that is cut short it gives what there is.
+#[derive(Drop)]
+struct Rows<'a>(&'a [u8]);
+
+impl<'a> Iterator for Rows<'a> {
+    type Item = &'a [u8];
+
+    ghost next_gives = { YieldsFirstRef (λ s. forms_of s.0.now) };
+
+    ghost remaining = { item_count (λ s. forms_of s.0.now) };
+
+    fn next(&mut self) -> Option<&'a [u8]> {
+        let (form, rest) = split_row(self.0)?;
+        self.0 = rest;
+        Some(form)
+    }
+}
+
 /// Whether a form is among those of the rows.
 pub fn has_form(rows: &[u8], form: &[u8]) -> bool
     ensures { result ≡ stands form.now (forms_of rows.now) }
 {
-    let mut left = rows;
-    'rows: while let Some((here, rest)) = split_row(left) {
-        if here == form {
-            return true;
-        }
-        left = rest;
-    }
-    false
+    Rows(rows).any(|here| here == form)
 }
 
 /// How many rows there are.
 pub(crate) fn count_rows(rows: &[u8]) -> usize
     ensures { result ≡ length (forms_of rows.now) }
 {
-    let mut left = rows;
-    let mut count = 0usize;
-    'rows: while let Some((_, rest)) = split_row(left) {
-        count += 1;
-        left = rest;
-    }
-    count
+    Rows(rows).count()
 }
 
 /// How many bytes the rows have that stand before a form.
 pub(crate) fn place_of(rows: &[u8], form: &[u8]) -> usize
     ensures { result ≡ place form.now (forms_of rows.now) }
 {
-    let mut left = rows;
-    'rows: while let Some((here, rest)) = split_row(left) {
-        if !precedes(here, form) {
-            return rows.len() - left.len();
-        }
-        left = rest;
-    }
-    rows.len()
+    Rows(rows)
+        .take_while(|here| precedes(here, form))
+        .map(|here| 1 + here.len())
+        .sum()
 }
 
 /// Puts the row of a form between the first `at` of `n` bytes in use and the others.

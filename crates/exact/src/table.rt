@@ -4,10 +4,19 @@ ghost use Rattle.exact.specs.Rows.{pack, forms_of, keepable};
 
 use filters::Hashing;
 
-/// An exact list: at most 64 rows, packed in ascending order at the front of a table of 64 times 24 bytes.
+/// The most rows of an exact list.
+pub const MOST_ROWS: usize = 64;
+
+/// The most bytes of a row: its length, and a form of at most 23 bytes.
+pub const ROW_SIZE: usize = 24;
+
+/// The bytes of the table.
+pub const TABLE_SIZE: usize = MOST_ROWS * ROW_SIZE;
+
+/// An exact list: rows packed in ascending order at the front of a table that holds the most rows.
 #[derive(Drop)]
 pub struct ExactList {
-    pub(crate) table: [u8; 1536],
+    pub(crate) table: [u8; TABLE_SIZE],
     pub(crate) len: usize,
     pub(crate) count: usize,
     pub(crate) hashing: Hashing,

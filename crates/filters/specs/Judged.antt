@@ -1,12 +1,10 @@
 -- What it takes for bytes to be accepted by load.
-use Rattle.std.specs.Prelude.{◌≡◌, ℕ, true, false, cond, List, length, Some, None, Ok, Option, Result, ◌≢◌, refl}
-use Rattle.std.proofs.Common.{sym, ap, ◌∙◌, ⊎_elim, arith}
+use Rattle.std.specs.Prelude.{◌≡◌, ℕ, true, false, cond, List, length, Some, None, Ok, Option, ◌≢◌, refl}
+use Rattle.std.proofs.Common.{sym, ◌∙◌, ⊎_elim}
 use Rattle.std.proofs.lemmas.Bool.{cases_Bool, cond-true, cond-false}
 use Rattle.refusals.specs.declared.Reason.{Reason}
 use Rattle.refusals.specs.declared.Reason.TheVariants.{BadLength, BadSetting}
-use Rattle.refusals.specs.declared.Refusal.{Refusal}
-use Rattle.filters.specs.declared.Hashing.{Hashing}
-use Rattle.filters.specs.Answers.{answered, unless, after_load}
+use Rattle.filters.specs.Answers.{answered}
 use Rattle.filters.specs.Kind.{Kind, hashes_allowed, content_reason, judged}
 
 module _ {V : Type 0} (k : Kind V) (hashes : ℕ) (body : List ℕ) where
@@ -16,7 +14,7 @@ module _ {V : Type 0} (k : Kind V) (hashes : ℕ) (body : List ℕ) where
     pub well : content_reason (k.judges body) ≡ None
 
   some_none : (r : Reason) → Some r ≢ None
-  some_none r e = let z : ◌≡◌ {A = ℕ} 0 1 = cc in omega arith
+  some_none r e = cc
 
   pub fitting : judged k hashes body ≡ None → Fitting
   fitting e =
@@ -37,10 +35,4 @@ module _ {V : Type 0} (k : Kind V) (hashes : ℕ) (body : List ℕ) where
 -- an accepted judgement has no reason
 pub ok_none : (o : Option Reason) (u : Unit {0}) → Ok u ≡ answered o → o ≡ None
 ok_none None u e = refl
-ok_none (Some r) u e = absurd (let z : ◌≡◌ {A = ℕ} 0 1 = cc in let b : ⊥ = omega arith in b)
-
--- what load leaves when the bytes are accepted
-pub after_accepted : {V : Type 0} (k : Kind V) (v : V) (h : Hashing) (body : List ℕ) → judged k h.hashes body ≡ None → (Ok tt, k.loaded h body) ≡ after_load k v h body
-after_accepted {V} k v h body e =
-    let done : Option Reason → Result (Unit {0}) Refusal × V = λ o. (answered o, unless o (k.loaded h body) v) in
-    ap done (sym e)
+ok_none (Some r) u e = cc

@@ -1,13 +1,25 @@
 //! The filter interface: what a filter means, and what every kind of filter keeps.
 #![tactic(auto)]
 
-ghost use Rattle.std.specs.Prelude.{◌≡◌, ℕ, true, length};
-ghost use Rattle.filters.specs.Kind.{Kind, Rules, Alone, judged};
+ghost use Rattle.std.specs.Prelude.{◌≡◌, ℕ, true, length, None};
+ghost use Rattle.filters.specs.Kind.{Kind, Rules, Alone, hashes_allowed, content_reason, allowed, judged};
 ghost use Rattle.passes.specs.Outputs.{written_to};
 ghost use Rattle.filters.specs.Answers.{answered, after_clear, after_put, after_load};
 
 use passes::identifier::Identifier;
-use refusals::Refusal;
+use refusals::{Reason, Refusal};
+
+pub mod table;
+
+/// The most hashes that a filter makes of an identifier.
+pub const MOST_HASHES: u8 = 8;
+
+/// Whether a hash count is one that filters allow.
+pub fn allows_hashes(hashes: u8) -> bool
+    ensures { result ≡ hashes_allowed hashes }
+{
+    (1..=MOST_HASHES).contains(&hashes)
+}
 
 /// How a filter hashes: what its saved bytes don't carry.
 #[derive(Clone, Copy)]
@@ -15,6 +27,15 @@ pub struct Hashing {
     pub salt: u16,
     pub level: u8,
     pub hashes: u8,
+}
+
+impl Hashing {
+    /// How a filter hashes before any clear.
+    pub const FIRST: Hashing = Hashing {
+        salt: 0,
+        level: 1,
+        hashes: 1,
+    };
 }
 
 /// What clear sets: how the filter hashes, and the size of its table in bytes.
@@ -48,17 +69,27 @@ pub trait Filter: Sized {
     fn measures(len: usize) -> bool
         ensures { result ≡ kind.measures len };
 
-    /// Whether load would accept these bytes under this hash count.
-    fn judge(hashes: u8, body: &[u8]) -> Result<(), Refusal>
-        ensures { result ≡ answered (judged kind hashes body.now) };
+    /// Judges the content of saved bytes of a fitting length.
+    fn judge_content(body: &[u8]) -> Result<(), Refusal>
+        ensures { result ≡ answered (content_reason (kind.judges body.now)) };
 
     /// The settings under which it stands.
     fn settings(&self) -> Settings
         ensures { result ≡ kind.settings (view self.now) };
 
-    /// Sets the settings and empties it; settings that aren't allowed change nothing.
-    fn clear(&mut self, settings: Settings) -> Result<(), Refusal>
-        ensures { (result, view self.new) ≡ after_clear kind (view self.old) settings };
+    /// The bytes that it saves.
+    fn saved(&self) -> &[u8]
+        ensures { result.now ≡ kind.saved (view self.now) };
+
+    /// Sets settings that are allowed and empties it.
+    fn empty(&mut self, settings: Settings)
+        requires { allowed kind settings ≡ true }
+        ensures { view self.new ≡ kind.cleared settings };
+
+    /// Takes over saved bytes that are accepted, under this salt, level and hash count.
+    fn take_over(&mut self, hashing: Hashing, body: &[u8])
+        requires { judged kind hashing.hashes body.now ≡ None }
+        ensures { view self.new ≡ kind.loaded hashing body.now };
 
     /// Adds an identifier, and says whether it was taken; one that isn't changes nothing.
     fn put<I: Identifier>(&mut self, id: &I) -> bool
@@ -68,17 +99,58 @@ pub trait Filter: Sized {
     fn ask<I: Identifier>(&self, id: &I) -> bool
         ensures { result ≡ kind.says (view self.now) (I.form id.now) };
 
+    /// Whether load would accept these bytes under this hash count.
+    fn judge(hashes: u8, body: &[u8]) -> Result<(), Refusal>
+        ensures { result ≡ answered (judged kind hashes body.now) }
+    {
+        if !allows_hashes(hashes) {
+            return Err(Reason::BadSetting.into());
+        }
+        if !Self::measures(body.len()) {
+            return Err(Reason::BadLength.into());
+        }
+        Self::judge_content(body)
+    }
+
+    /// Sets the settings and empties it; settings that aren't allowed change nothing.
+    fn clear(&mut self, settings: Settings) -> Result<(), Refusal>
+        ensures { (result, view self.new) ≡ after_clear kind (view self.old) settings }
+    {
+        if !Self::allows(settings.size, settings.hashing.hashes) {
+            return Err(Reason::BadSetting.into());
+        }
+        self.empty(settings);
+        Ok(())
+    }
+
     /// How many bytes it saves.
     fn saved_len(&self) -> usize
-        ensures { result ≡ length (kind.saved (view self.now)) };
+        ensures { result ≡ length (kind.saved (view self.now)) }
+    {
+        self.saved().len()
+    }
 
     /// Writes its bytes to the front of the output and says how many; none, and nothing written, if they don't fit.
     fn save(&self, out: &mut [u8]) -> Option<usize>
-        ensures { (result, out.new) ≡ written_to (kind.saved (view self.now)) out.old };
+        ensures { (result, out.new) ≡ written_to (kind.saved (view self.now)) out.old }
+    {
+        let saved = self.saved();
+        let n = saved.len();
+        if n > out.len() {
+            return None;
+        }
+        out[..n].copy_from_slice(saved);
+        Some(n)
+    }
 
     /// Takes over saved bytes under this salt, level and hash count; bytes that aren't accepted change nothing.
     fn load(&mut self, hashing: Hashing, body: &[u8]) -> Result<(), Refusal>
-        ensures { (result, view self.new) ≡ after_load kind (view self.old) hashing body.now };
+        ensures { (result, view self.new) ≡ after_load kind (view self.old) hashing body.now }
+    {
+        Self::judge(hashing.hashes, body)?;
+        self.take_over(hashing, body);
+        Ok(())
+    }
 }
 
 /// A filter whose put adds that identifier alone.

@@ -1,11 +1,11 @@
-use Rattle.std.proofs.Common.{◌≡◌, ℕ, ◌-◌, true, false, List, length, get_or, drop, Err, Result, sym, ap, ◌∙◌, arith}
+use Rattle.std.proofs.Common.{◌≡◌, ℕ, ◌-◌, true, false, List, get_or, drop, Err, Result, sym, ap, ◌∙◌}
 use Rattle.refusals.specs.declared.Refusal.{Refusal}
 use Rattle.filters.specs.Kind.{Content, fine, misvalued, content_reason}
 use Rattle.filters.specs.Answers.{answered}
 use Rattle.passes.specs.Lawful.{lawful}
 use Rattle.passes.specs.Order.{before}
 use Rattle.exact.specs.Rows.{first_form, behind_first, whole, judge_from}
-use Rattle.exact.proofs.Walks.{shorter, judge_full, judge_broken, judge_unlawful, judge_unsorted, judge_further, judge_end}
+use Rattle.exact.proofs.Walks.{judge_full, judge_broken, judge_unlawful, judge_unsorted, judge_further, judge_end}
 use Rattle.exact.proofs.Packings.{judge_decides, packing_law}
 use Rattle.exact.proofs.rows.judge_rows.Goals as goal
 use Rattle.exact.proofs.rows.judge_rows.Goals.{then-room-eq0-via-then-room-eq0, then-room-eq0-via-else-room-eq0+then-not-is_whole, then-room-eq0-via-else-room-eq0+else-not-is_whole+then-not-is_lawful}
@@ -43,9 +43,6 @@ returns-then-not-precedes c =
     let b : before last (first_form left) ≡ false = ap (before last) (sym k.0) ∙ sym c.precedes.ensures ∙ c.if-not-precedes.true in
     let v = ap refused c.into-then-not-precedes.ensures ∙ ap answer (sym (judge_unsorted last left k.2 w f c.rows.room c.if-room-eq0.false b) ∙ c.rows.invariant) in
     record { value = v; meaning = judge_decides c.args.body.now (refused c.into-then-not-precedes.result) v; law = packing_law }
-
-pub rows-smaller : goal.rows-smaller
-rows-smaller c = let k = c.in-Some.ensures in let l = shorter c.rows.left.now k.2 in omega (arith, ap length k.1)
 
 pub rows-preserved : goal.rows-preserved
 rows-preserved c =

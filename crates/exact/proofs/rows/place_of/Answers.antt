@@ -1,29 +1,36 @@
-use Rattle.std.proofs.Common.{◌≡◌, ℕ, true, false, List, length, sym, ap, ◌∙◌, arith}
+use Rattle.std.proofs.Common.{◌+◌, length, ap, ◌∙◌, rules, arith}
+use borrow.Author.Tests.{tests}
+use borrow.Author.Rules.{of_calls}
+use Rattle.std.proofs.lemmas.Iterator.{YieldsList-from_map}
+use Rattle.std.proofs.lemmas.Iterator.Search.{YieldsList-from_take_while}
+use Rattle.std.proofs.lemmas.Iterator.Consumers.{YieldsList-at, YieldsList-from_first, sum_from_yields_List, fits_from_yields_list}
 use Rattle.passes.specs.Order.{before}
-use Rattle.exact.specs.Rows.{first_form, forms_of, place}
-use Rattle.exact.proofs.Walks.{shorter, row_length, place_here, place_further}
+use Rattle.exact.specs.declared.rows.Rows.{Rows}
+use Rattle.exact.specs.Rows.{forms_of}
+use Rattle.exact.proofs.Walks.{sum_before, place_rows}
 use Rattle.exact.proofs.rows.place_of.Goals as goal
 
-pub returns-then-not-precedes : goal.returns-then-not-precedes
-returns-then-not-precedes c =
-    let x = c.args.form.now in
-    let left = c.rows.left.now in
-    let k = c.in-Some.ensures in
-    let b : before (first_form left) x ≡ false = ap (λ (f : List ℕ). before f x) (sym k.0) ∙ sym c.precedes.ensures ∙ c.if-not-precedes.true in
-    let p = place_here x left k.2 b in
-    omega (arith, c.rows.invariant.1)
+pub sum-requires : goal.sum-requires
+sum-requires c =
+    let p = place_rows c.args.form.now c.args.rows.now in
+    let e = sum_before c.args.form.now (forms_of c.args.rows.now) in
+    record {
+      can = search of_calls;
+      finite = search of_calls;
+      fits =
+          fits_from_yields_list c.map.result _
+          (YieldsList-from_map _ (λ f. 1 + length f)
+          (YieldsList-at c.map.ensures.source
+          (YieldsList-from_take_while _ (λ f. before f c.args.form.now) (YieldsList-from_first (λ f. f.now) (λ s. forms_of s.0.now) (forms_of c.args.rows.now) (ap (λ (s : Rows). forms_of s.0.now) c.take_while.ensures.source)) c.take_while.ensures.closure c.take_while.ensures.done (λ f b q k. search (rules, tests))))
+          c.map.ensures.closure (λ f r q k. search (rules, tests)))
+          (omega arith);
+    }
 
-pub rows-smaller : goal.rows-smaller
-rows-smaller c = let k = c.in-Some.ensures in let l = shorter c.rows.left.now k.2 in omega (arith, ap length k.1)
-
-pub rows-preserved : goal.rows-preserved
-rows-preserved c =
-    let x = c.args.form.now in
-    let left = c.rows.left.now in
-    let k = c.in-Some.ensures in
-    let b : before (first_form left) x ≡ true = ap (λ (f : List ℕ). before f x) (sym k.0) ∙ sym c.precedes.ensures ∙ c.if-not-precedes.false in
-    let p = place_further x left k.2 b in
-    let r = ap (λ (t : List ℕ). place x (forms_of t)) k.1 in
-    let n = ap length k.1 in
-    let m = row_length left k.2 in
-    (omega (arith, c.rows.invariant.0), omega (arith, c.rows.invariant.0, c.rows.invariant.1))
+pub returns : goal.returns
+returns c =
+    sum_from_yields_List c.map.result c.sum.result c.sum.ensures.ran
+    (YieldsList-from_map _ (λ f. 1 + length f)
+    (YieldsList-at c.map.ensures.source
+    (YieldsList-from_take_while _ (λ f. before f c.args.form.now) (YieldsList-from_first (λ f. f.now) (λ s. forms_of s.0.now) (forms_of c.args.rows.now) (ap (λ (s : Rows). forms_of s.0.now) c.take_while.ensures.source)) c.take_while.ensures.closure c.take_while.ensures.done (λ f b q k. search (rules, tests))))
+    c.map.ensures.closure (λ f r q k. search (rules, tests)))
+    ∙ sum_before c.args.form.now (forms_of c.args.rows.now)
