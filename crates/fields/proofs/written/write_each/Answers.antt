@@ -1,7 +1,5 @@
-use Rattle.std.proofs.Common.{ℕ, ◌-◌, ◌≤◌, List, ◌++◌, length, drop, take, subst, sym, ap, ◌∙◌}
-use Rattle.std.proofs.lemmas.List.{take_all}
-use Rattle.passes.specs.Outputs.{joined}
-use Rattle.passes.proofs.Outputs.{Wrote, wrote_to, next_room, next_wrote}
+use Rattle.std.proofs.Common.{ℕ, ◌-◌, ◌≤◌, ◌++◌, length, drop, take, subst, sym, ap, ◌∙◌}
+use Rattle.passes.proofs.Outputs.{next_room, next_wrote}
 use Rattle.fields.proofs.written.write_each.Goals as goal
 
 pub write-requires : goal.write-requires
@@ -24,11 +22,3 @@ loop-thing-preserved g c =
     ∙ ap (λ (x : g.row.W.Denot). f x ++ drop c.size-at.result room) c.thing-item.is
     in
     next_wrote f c.args.things.now now.thing-index c.thing-item.result c.loop-thing-test.true c.args.out.now now.out now.at now.invariant c.requires c.size-at.result c.write.new.out size bytes
-
-pub returns : goal.returns
-returns g c =
-    let f = g.W.Written.bytes in
-    let xs = c.args.things.now in
-    let now = c.loop-thing in
-    let P : List g.row.W.Denot → Type 0 = λ t. Wrote (joined f t) c.args.out.now now.out now.at in
-    wrote_to (joined f xs) c.args.out.now now.out now.at (subst P (take_all now.thing-index xs c.loop-thing-test.false) now.invariant)

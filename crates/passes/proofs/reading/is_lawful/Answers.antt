@@ -2,14 +2,8 @@ use Rattle.std.proofs.Common.{ℕ, ◌<◌, get_or, ◌∙◌, rules}
 use Rattle.std.proofs.lemmas.Bool.Decides.{Decides-at}
 use Rattle.passes.specs.Lawful.{lawful}
 use Rattle.passes.specs.ByteLaws.{bytes_from}
-use Rattle.passes.proofs.Shapes.{decides_lawful, lawful_short, lawful_long}
+use Rattle.passes.proofs.Shapes.{decides_lawful, lawful_long}
 use Rattle.passes.proofs.reading.is_lawful.Goals as goal
-
-pub returns-then-bytes-lt4 : goal.returns-then-bytes-lt4
-returns-then-bytes-lt4 c =
-    let xs = c.args.bytes.now in
-    let e = lawful_short xs c.if-bytes-lt4.true in
-    record { value = e; meaning = Decides-at _ (lawful xs) e (decides_lawful xs) }
 
 pub returns : goal.returns
 returns c =

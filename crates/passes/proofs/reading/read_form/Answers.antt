@@ -1,17 +1,7 @@
 use Rattle.std.proofs.Common.{ℕ, ◌-◌, ◌<◌, length, get_or, take, drop, refl, rules}
 use Rattle.passes.specs.Lawful.{lawful_length}
-use Rattle.passes.proofs.Shapes.{tag_back, chip_back, tag_length, chip_first}
+use Rattle.passes.proofs.Shapes.{chip_back, chip_first}
 use Rattle.passes.proofs.reading.read_form.Goals as goal
-
-pub returns-then-bytes : goal.returns-then-bytes
-returns-then-bytes c =
-    let xs = c.args.bytes.now in
-    let low : (i : ℕ) → get_or xs i 0 < 256 = λ i. search rules in
-    let l = c.if-not-is_lawful.ensures.meaning.0 refl in
-    record {
-      test = c.if-not-is_lawful.ensures.value;
-      form = tag_back xs low c.issuer_of-issuer.result c.from_be_bytes-number.result (tag_length xs l c.if-bytes.true) c.if-bytes.true c.issuer_of-issuer.ensures c.from_be_bytes-number.ensures;
-    }
 
 pub returns-else-bytes : goal.returns-else-bytes
 returns-else-bytes c =

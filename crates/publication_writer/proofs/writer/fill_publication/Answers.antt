@@ -1,23 +1,5 @@
-use Rattle.publications.proofs.Writing.{coverage_room, not_none, publication_wrote}
+use Rattle.publications.proofs.Writing.{publication_wrote}
 use Rattle.publication_writer.proofs.writer.fill_publication.Goals as goal
-
-pub write_coverage-start-requires : goal.write_coverage-start-requires
-write_coverage-start-requires g c =
-    let h = c.args.head in
-    let rs = c.args.rows.now in
-    let tables = g.D.Decider.decider.saved 1 (g.D.Decider.state c.args.levels.now) in
-    let out = c.args.out.now in
-    let out1 = c.write_head.new.out in
-    coverage_room h rs tables out out1 c.requires c.write_head.ensures
-
-pub returns-in_err-end : goal.returns-in_err-end
-returns-in_err-end g c =
-    let h = c.args.head in
-    let rs = c.args.rows.now in
-    let tables = g.D.Decider.decider.saved 1 (g.D.Decider.state c.args.levels.now) in
-    let out = c.args.out.now in
-    let out1 = c.write_head.new.out in
-    absurd (not_none h rs tables out out1 c.requires c.write_head.ensures c.write_coverage-start.new.out c.write_coverage-start.result c.write_coverage-start.ensures c.save.new.out c.in_err-end.ensures)
 
 pub returns : goal.returns
 returns g c =

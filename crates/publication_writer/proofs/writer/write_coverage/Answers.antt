@@ -1,13 +1,6 @@
 use Rattle.std.proofs.Common.{◌++◌, length, drop, refl}
-use Rattle.publications.proofs.Writing.{cover_header, rows_room, coverage_wrote}
+use Rattle.publications.proofs.Writing.{cover_header, coverage_wrote}
 use Rattle.publication_writer.proofs.writer.write_coverage.Goals as goal
-
-pub write_each-requires : goal.write_each-requires
-write_each-requires c =
-    let rs = c.args.rows.now in
-    let out = c.args.out.now in
-    let first = c.copy_from_slice.new.self in
-    rows_room rs out (first ++ drop 3 out) first c.requires refl (cover_header rs (length rs) first refl (simp c.to_be_bytes-len.ensures at c.copy_from_slice.ensures.after))
 
 pub returns : goal.returns
 returns c =

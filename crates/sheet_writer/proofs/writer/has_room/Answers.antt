@@ -2,7 +2,7 @@ use Rattle.std.proofs.Common.{◌+◌, ◌<◌, leb, List, [], length, get_or, s
 use Rattle.std.proofs.lemmas.List.{drop_all}
 use Rattle.sheets.specs.declared.SheetWord.{SheetWord}
 use Rattle.sheets.specs.declared.Side.TheVariants.{Good}
-use Rattle.sheets.proofs.Writing.{spelled, too_long, still_fits, under_head}
+use Rattle.sheets.proofs.Writing.{spelled, too_long, under_head}
 use Rattle.sheet_writer.proofs.writer.has_room.Goals as goal
 use Rattle.sheet_writer.proofs.writer.has_room.Goals.{then-left-lt4-via-then-left-lt4, then-left-lt4-via-else-left-lt4+then-left-n}
 
@@ -18,14 +18,6 @@ returns-then-left-lt4 c =
     let m : c.words.left < 4 + length (get_or ws i blank).form.now =
     elim c.then-left-lt4.branch [ then-left-lt4-via-then-left-lt4 w ↦ omega (arith, w.if-left-lt4.true) | then-left-lt4-via-else-left-lt4+then-left-n w ↦ omega (arith, w.if-left-n.true) ] in
     λ h. too_long ws i blank l c.words.left (leb (17 + length (spelled ws)) c.args.room) c.words.invariant m ∙ under_head h ws c.args.room
-
-pub words-preserved : goal.words-preserved
-unfolding blank
-words-preserved c =
-    let ws = c.args.words.now in
-    let i = c.words.word-index in
-    let l : i < length ws = omega arith in
-    still_fits ws i blank l c.words.left (leb (17 + length (spelled ws)) c.args.room) c.words.invariant (omega arith)
 
 pub returns : goal.returns
 returns c =
