@@ -1,17 +1,28 @@
 -- The lowest empty cell of a bucket, and one turn of the loop of kicks.
-use Rattle.std.proofs.Common.{◌≡◌, ℕ, zero, suc, ◌+◌, ◌-◌, ◌*◌, ◌%◌, ◌<◌, ◌≤◌, true, false, eqb, List, length, get_or, set, take, drop, Some, None, Option, sym, refl, ap, ◌∙◌, ⊎_elim, length-take, arith}
+use Rattle.std.proofs.Common.{◌≡◌, ℕ, zero, suc, ◌+◌, ◌-◌, ◌*◌, ◌%◌, ◌<◌, ◌≤◌, Bool, true, false, ◌||◌, eqb, List, length, get_or, set, take, drop, Some, None, Option, sym, refl, ap, ◌∙◌, ⊎_elim, length-take, arith}
 use Rattle.std.specs.Option.{option_map}
-use Rattle.std.specs.List.{position, position_from, slice_range}
+use Rattle.std.specs.List.{list_any, position, position_from, slice_range}
 use Rattle.std.proofs.Math.Seq.{drop-cons, take-set-lt}
 use Rattle.std.proofs.lemmas.List.{get_or-take}
 use Rattle.std.proofs.lemmas.Bool.{cases_Bool}
 use Rattle.std.proofs.lemmas.Iterator.Adapters.{position_from-zero}
 use Rattle.std.proofs.lemmas.List.Quantifiers.{position-Some}
 use Rattle.filters.specs.declared.Settings.{Settings}
-use Rattle.cuckoo.specs.Cells.{put_into, or_else, kicked}
+use Rattle.cuckoo.specs.Cells.{holds, put_into, or_else, kicked}
 use Rattle.cuckoo.specs.Setting.{cuckoo_allows}
 use Rattle.cuckoo.specs.Cuckoo.{buckets}
 use Rattle.cuckoo.specs.Rules.{ranges}
+
+any_from : (t : List ℕ) (c k f : ℕ) → c + k ≤ length t → list_any (λ cell. eqb cell f) (take k (drop c t)) ≡ holds t c k f
+any_from t c zero f l = refl
+any_from t c (suc k) f l =
+    let e = drop-cons t c 0 (omega arith) in
+    let s : suc c ≡ c + 1 = omega arith in
+    rw (e, s) (ap (λ (b : Bool). eqb (get_or t c 0) f || b) (any_from t (c + 1) k f (omega arith)))
+
+-- one of four cells from c on
+pub any_held : (t : List ℕ) (c f : ℕ) → c + 4 ≤ length t → list_any (λ cell. eqb cell f) (slice_range t c (c + 4)) ≡ holds t c 4 f
+any_held t c f l = let w : c + 4 - c ≡ 4 = omega arith in ap (λ (k : ℕ). list_any (λ cell. eqb cell f) (take k (drop c t))) w ∙ any_from t c 4 f l
 
 into_from : (t : List ℕ) (b n k f : ℕ) → b + n + k ≤ length t → put_into t (b + n) k f ≡ option_map (λ j. set t (b + j) f) (position_from (λ cell. eqb cell 0) n (take k (drop (b + n) t)))
 unfolding put_into

@@ -14,6 +14,7 @@ pub const ROW_SIZE: usize = 24;
 pub const TABLE_SIZE: usize = MOST_ROWS * ROW_SIZE;
 
 /// An exact list: rows packed in ascending order at the front of a table that holds the most rows.
+// A buffer with its length beside it: nothing allocates here.
 #[derive(Drop)]
 pub struct ExactList {
     pub(crate) table: [u8; TABLE_SIZE],
