@@ -1,14 +1,9 @@
 -- Registers under marks, and one turn of each loop over them.
-use Rattle.std.proofs.Common.{◌≡◌, ℕ, zero, suc, ◌+◌, ◌-◌, ◌<◌, ◌≤◌, true, false, cond, List, [], ◌∷◌, map, length, get_or, take, drop, set, Ok, Err, Result, sym, refl, ap, ◌∙◌, ⊎_elim, add-one, arith, get_or-set_other, get_or-set_same, eq-eqb, ne_eqb, MatchResult}
-use Rattle.std.proofs.lemmas.List.{drop_more, take_rest}
-use Rattle.std.proofs.lemmas.Bool.{cases_eq}
-use Rattle.refusals.specs.declared.Refusal.{Refusal}
-use Rattle.filters.specs.declared.Hashing.{Hashing}
+use Rattle.std.proofs.Common.{◌≡◌, ℕ, zero, suc, ◌+◌, ◌<◌, ◌≤◌, true, false, cond, List, [], ◌∷◌, map, length, get_or, drop, Ok, Err, sym, refl, ap, ◌∙◌, add-one, arith, eq-eqb, ne_eqb}
 use Rattle.filters.specs.Kind.{Kind}
 use Rattle.levels.specs.declared.Entry.{Entry}
-use Rattle.levels.specs.Marks.{mark_number, mark_in}
 use Rattle.levels.specs.Rows.{Row, rows}
-use Rattle.levels.specs.Deciders.{Decides, fill, turn, remark, begun, at_size, deeper, level_decides}
+use Rattle.levels.specs.Deciders.{fill, turn, remark}
 
 abbrev pub row : {I : Type 0} → (I → List ℕ) → Entry I → ℕ → Row
 row f e m = record { form = f e.id; mark = m }
@@ -61,32 +56,7 @@ module _ {V : Type 0} (k : Kind V) where
   unfolding fill
   fill_done v i = refl
 
--- a number that names no mark counts as 0
-pub remark_named : {V : Type 0} (k : Kind V) (v : V) (x : List ℕ) (n : ℕ) → remark k v (record { form = x; mark = mark_number (mark_in n) }) ≡ remark k v (record { form = x; mark = n })
-remark_named k v x n =
-    ⊎_elim
-    (λ (e : n ≡ 1). rw e)
-    (λ (e : n ≡ 1 → ⊥). ⊎_elim (λ (h : n ≡ 2). rw h) (λ (h : n ≡ 2 → ⊥). rw (ne_eqb n 1 e, ne_eqb n 2 h)) (cases_eq n 2))
-    (cases_eq n 1)
-
--- the mark that `turn` gives at place i
-pub marks_more : (ns : List ℕ) (i y : ℕ) (P : ℕ → ℕ → Type 0) → i < length ns → ((j : ℕ) → j < i → P j (get_or ns j 0)) → P i y → (j : ℕ) → j < i + 1 → P j (get_or (set ns i y) j 0)
-marks_more ns i y P l below at j h =
-    ⊎_elim
-    (λ (e : j ≡ i). rw (e, get_or-set_same) at)
-    (λ (e : j ≡ i → ⊥). rw get_or-set_other (below j (omega arith)))
-    (cases_eq j i)
-
 pub get_d_any : {X : Type 0} (xs : List X) (i : ℕ) (d e : X) → i < length xs → get_or xs i d ≡ get_or xs i e
 get_d_any [] i d e l = absurd (omega arith)
 get_d_any (x ∷ xs) zero d e l = refl
 get_d_any (x ∷ xs) (suc i) d e l = get_d_any xs i d e (omega arith)
-
--- a list by its first element and the part behind it
-pub split_first : (xs : List ℕ) → 1 ≤ length xs → xs ≡ get_or xs 0 0 ∷ take (length xs - 1) (drop 1 xs)
-split_first xs l = drop_more xs 0 0 (omega arith) ∙ ap (λ (t : List ℕ). get_or xs 0 0 ∷ t) (sym (take_rest xs 1))
-
--- a level whose filter was filled: the build goes on below
-pub level_built : {V S : Type 0} (k : Kind V) (d : Decides S) (h : Hashing) (size : ℕ) (sizes rest : List ℕ) (rs rs' : List Row) (v : V) (s : S) (res : Result (Unit {0}) Refusal) → sizes ≡ size ∷ rest → begun k (at_size h size) rs ≡ Ok v → rs' ≡ map (turn k v) rs → MatchResult res (λ x. d.build (deeper h) rest rs' ≡ Ok s) (λ e. d.build (deeper h) rest rs' ≡ Err e) → MatchResult res (λ x. (level_decides k d).build h sizes rs ≡ Ok (record { filter = v; below = s })) (λ e. (level_decides k d).build h sizes rs ≡ Err e)
-level_built k d h size sizes rest rs rs' v s (Ok x) z b r c = let g = rw r at c in rw z (rw (b, g))
-level_built k d h size sizes rest rs rs' v s (Err e) z b r c = let g = rw r at c in rw z (rw (b, g))

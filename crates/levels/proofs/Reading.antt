@@ -112,12 +112,3 @@ module _ {V S : Type 0} (k : Kind V) (d : Decides S) (h : Hashing) (tag at at2 :
 
   pub level_refuses : (f : Refusal) → d.loads (deeper h) input2 at2 ≡ Err f → (level_decides k d).loads h input at ≡ Err f
   level_refuses f q = begins ∙ ap (λ (r : Result (S × ℕ) Refusal). then r (λ q. Ok (record { filter = k.loaded h body; below = q.0 }, q.1))) q
-
--- the table itself refused
-pub end_stops : {V : Type 0} (k : Kind V) (h : Hashing) (tag at : ℕ) (input : List ℕ) (f : Refusal) → tag ≡ tag_of h.level → table_at k tag h.hashes input at ≡ Err f → (end_decides k).loads h input at ≡ Err f
-end_stops k h tag at input f t e = ap (λ (r : Result (List ℕ) Refusal). then r (λ b. Ok (k.loaded h b, at + 3 + length b))) (ap (λ (n : ℕ). table_at k n h.hashes input at) (sym t) ∙ e)
-
-pub level_stops : {V S : Type 0} (k : Kind V) (d : Decides S) (h : Hashing) (tag at : ℕ) (input : List ℕ) (f : Refusal) → tag ≡ tag_of h.level → table_at k tag h.hashes input at ≡ Err f → (level_decides k d).loads h input at ≡ Err f
-level_stops {V} {S} k d h tag at input f t e =
-    let go : List ℕ → Result (Over V S × ℕ) Refusal = λ b. then (d.loads (deeper h) input (at + 3 + length b)) (λ q. Ok (record { filter = k.loaded h b; below = q.0 }, q.1)) in
-    ap (λ (r : Result (List ℕ) Refusal). then r go) (ap (λ (n : ℕ). table_at k n h.hashes input at) (sym t) ∙ e)

@@ -1,25 +1,13 @@
 -- Fields written one behind the other.
-use Rattle.std.proofs.Common.{◌≡◌, ℕ, ◌+◌, ◌-◌, ◌/◌, ◌%◌, ◌<◌, ◌≤◌, true, false, leb, List, [], ◌∷◌, ◌++◌, length, sym, ap, ◌∙◌, ⊎_elim, arith}
+use Rattle.std.proofs.Common.{◌≡◌, ℕ, ◌+◌, ◌/◌, ◌%◌, List, [], ◌∷◌, ◌++◌, length, ap, ◌∙◌, arith}
 use lib.Bits.{bit_and}
 use Rattle.std.proofs.lemmas.Nat.{and_mask}
 use Rattle.std.proofs.lemmas.List.{length-append}
-use Rattle.std.proofs.lemmas.Bool.{cases_Bool, le-leb, lt-leb, leb-true, leb-false}
 use Rattle.fields.specs.Fields.{field}
 use Rattle.fields.proofs.Readback.{length_field}
 
 pub length_both : (tag : ℕ) (b c : List ℕ) → length (field tag b ++ c) ≡ 3 + length b + length c
 length_both tag b c = length-append (field tag b) c ∙ ap (λ (n : ℕ). n + length c) (length_field tag b)
-
-pub fits_short : (tag n room : ℕ) (b c : List ℕ) → n ≡ length b → room < 3 + n → false ≡ leb (length (field tag b ++ c)) room
-fits_short tag n room b c e l = let s = length_both tag b c in sym (lt-leb (length (field tag b ++ c)) room (omega arith))
-
-pub fits_rest : (tag n room : ℕ) (b c : List ℕ) → n ≡ length b → 3 + n ≤ room → leb (length c) (room - 3 - n) ≡ leb (length (field tag b ++ c)) room
-fits_rest tag n room b c e l =
-    let s = length_both tag b c in
-    ⊎_elim
-    (λ (t : leb (length c) (room - 3 - n) ≡ true). let p = leb-true (length c) (room - 3 - n) t in t ∙ sym (le-leb (length (field tag b ++ c)) room (omega arith)))
-    (λ (t : leb (length c) (room - 3 - n) ≡ false). let p = leb-false (length c) (room - 3 - n) t in t ∙ sym (lt-leb (length (field tag b ++ c)) room (omega arith)))
-    (cases_Bool (leb (length c) (room - 3 - n)))
 
 -- the header of a field, from the low sixteen bits of the length
 pub header_bytes : (tag n : ℕ) (body head : List ℕ) → n ≡ length body → head ≡ tag ∷ (bit_and n 65535 / 256 % 256) ∷ (bit_and n 65535 % 256) ∷ [] → head ≡ tag ∷ (length body / 256 % 256) ∷ (length body % 256) ∷ []

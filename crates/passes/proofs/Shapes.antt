@@ -1,7 +1,7 @@
 -- The test of a lawful shape decides it; and the pass that a lawful form is read as.
 use Rattle.std.proofs.Common.{◌≡◌, ℕ, zero, suc, ◌+◌, ◌-◌, ◌*◌, ◌/◌, ◌%◌, ◌<◌, ◌≤◌, Bool, true, false, cond, ◌&&◌, eqb, ltb, leb, List, [], ◌∷◌, ◌++◌, length, get_or, take, drop, Decides, sym, refl, ap, ◌∙◌, ⊎_elim, add-one, arith}
 use Rattle.std.proofs.lemmas.List.{drop_more, drop_all, take_rest, length-drop, get_or-drop}
-use Rattle.std.proofs.lemmas.Bool.{and_parts, and_from, and_left, eqb-true, leb-true, eq-eqb, ne_eqb, le-leb, lt-leb, cases_eq, cond-false, both_ways, true≢false}
+use Rattle.std.proofs.lemmas.Bool.{and_parts, and_from, eqb-true, leb-true, eq-eqb, ne_eqb, le-leb, cases_eq, cond-false, both_ways, true≢false}
 use Rattle.passes.specs.Bytes.{bytes, be2, be8}
 use Rattle.passes.specs.Forms.{chip_form}
 use Rattle.passes.proofs.Parts.{chip_plain}
@@ -40,9 +40,6 @@ and_true_right false = refl
 
 pub decides_lawful : (xs : List ℕ) → Decides (lawful xs) (Lawful xs)
 decides_lawful xs = (from_test xs, to_test xs)
-
-pub lawful_short : (xs : List ℕ) → length xs < 4 → false ≡ lawful xs
-lawful_short xs l = let e = lt-leb 4 (length xs) l in sym (and_left (leb 4 (length xs) && begins (get_or xs 0 0) (length xs)) (bytes xs) (and_left (leb 4 (length xs)) (begins (get_or xs 0 0) (length xs)) e))
 
 pub lawful_long : (xs : List ℕ) → 4 ≤ length xs → bytes xs ≡ true → begins (get_or xs 0 0) (length xs) ≡ lawful xs
 lawful_long xs l b = rw (le-leb 4 (length xs) l, b) (sym (and_true_right (begins (get_or xs 0 0) (length xs))))
@@ -98,10 +95,6 @@ module _ (xs : List ℕ) (low : (i : ℕ) → get_or xs i 0 < 256) where
       let d2 = drop_more xs 2 0 (omega arith) in
       let p = chip_plain i serial low_serial (omega arith) (omega arith) in
       cc
-
-pub tag_length : (xs : List ℕ) → Lawful xs → get_or xs 0 0 ≡ 84 → length xs ≡ 11
-tag_length xs (tag e b) t = ap suc e
-tag_length xs (chip l h b) t = absurd (omega arith)
 
 pub chip_first : (xs : List ℕ) → Lawful xs → (get_or xs 0 0 ≡ 84 → ⊥) → get_or xs 0 0 ≡ 67
 chip_first xs (tag e b) t = absurd (t refl)

@@ -1,9 +1,6 @@
 -- A register marked by its sides.
 use Rattle.std.proofs.Common.{◌≡◌, ℕ, suc, ◌<◌, List, [], ◌∷◌, length, get_or, refl, ap, ◌∙◌, arith}
 use Rattle.levels.specs.declared.Entry.{Entry}
-use Rattle.levels.specs.declared.Side.{Side}
-use Rattle.levels.specs.declared.Side.TheVariants.{For, Against}
-use Rattle.levels.specs.Marks.{mark_number, side_mark}
 use Rattle.levels.specs.Rows.{Row, rows, mark_of, listed}
 
 -- marks by sides make the rows of a register
@@ -14,10 +11,6 @@ rows_listed f (x ∷ es) (m ∷ ms) n h =
     let here : m ≡ mark_of x.side = h 0 x (omega arith) in
     let rest = rows_listed f es ms (omega arith) (λ j e l. h (suc j) e (omega arith)) in
     ap (λ (y : ℕ). record { form = f x.id; mark = y } ∷ rows f es ms) here ∙ ap (λ (rs : List Row). record { form = f x.id; mark = mark_of x.side } ∷ rs) rest
-
-pub mark_is_of : (s : Side) → mark_number (side_mark s) ≡ mark_of s
-mark_is_of For = refl
-mark_is_of Against = refl
 
 pub length_listed : {I : Type 0} (f : I → List ℕ) (es : List (Entry I)) → length (listed f es) ≡ length es
 length_listed f [] = refl

@@ -1,10 +1,10 @@
 -- Judging coverage rows one by one.
-use Rattle.std.proofs.Common.{◌≡◌, ℕ, suc, ◌+◌, ◌-◌, ◌*◌, ◌<◌, ◌≤◌, Bool, true, false, cond, ◌||◌, List, ◌∷◌, is_some, Some, None, Ok, Err, Option, Result, sym, refl, ap, ◌∙◌, add-one, arith}
+use Rattle.std.proofs.Common.{◌≡◌, ℕ, suc, ◌+◌, ◌-◌, ◌*◌, ◌<◌, ◌≤◌, true, false, cond, List, ◌∷◌, is_some, Some, None, Ok, Err, Option, Result, refl, ap, ◌∙◌, arith}
 use Rattle.refusals.specs.declared.Reason.{Reason}
 use Rattle.refusals.specs.declared.Reason.TheVariants.{BadValue, NotAscending}
 use Rattle.fields.specs.Reading.{then}
 use Rattle.publications.specs.declared.CoverageRow.{CoverageRow}
-use Rattle.publications.specs.Reading.{row_at, same_key, repeats, rows_from, reason_of}
+use Rattle.publications.specs.Reading.{row_at, repeats, rows_from, reason_of}
 
 unfoldable pub with_row : ℕ → ℕ → List ℕ → Option CoverageRow → Result (List CoverageRow) Reason
 with_row n i b o = elim o [ None ↦ Err BadValue | Some r ↦ cond (repeats b i (7 * i)) (Err NotAscending) (then (rows_from n (i + 1) b) (λ rs. Ok (r ∷ rs))) ]
@@ -49,7 +49,3 @@ module _ (i : ℕ) (b : List ℕ) (n : ℕ) (l : i < n) where
 pub no_more : (i n : ℕ) (b : List ℕ) → n ≤ i → reason_of (rows_from (n - i) i b) ≡ None
 unfolding rows_from
 no_more i n b l = let e : n - i ≡ 0 = omega arith in ap (λ (k : ℕ). reason_of (rows_from k i b)) e
-
--- one row more before
-pub one_more : (b : List ℕ) (i at : ℕ) (found here : Bool) → found ≡ repeats b i at → here ≡ same_key b (7 * i) at → (found || here) ≡ repeats b (i + 1) at
-one_more b i at found here e f = ap (λ (x : Bool). x || here) e ∙ ap (λ (x : Bool). repeats b i at || x) f ∙ sym (ap (λ (n : ℕ). repeats b n at) (add-one i))

@@ -1,11 +1,8 @@
 -- Reading a publication, step by step.
-use Rattle.std.proofs.Common.{◌≡◌, ℕ, ◌+◌, true, false, eqb, List, [], length, Ok, Err, Result, sym, refl, ap, ◌∙◌, subst, arith, MatchResult}
+use Rattle.std.proofs.Common.{◌≡◌, ℕ, ◌+◌, false, eqb, List, [], length, Ok, Err, Result, ap, arith, MatchResult}
 use Rattle.refusals.specs.declared.Refusal.{Refusal}
-use Rattle.filters.specs.declared.Hashing.{Hashing}
-use Rattle.fields.specs.Reading.{then, check_at}
-use Rattle.fields.proofs.Steps.{never}
-use Rattle.levels.specs.Deciders.{Table, Decides, table_in, tables_at, table_fields, Saves}
-use Rattle.levels.specs.Laws.{SavesTables}
+use Rattle.fields.specs.Reading.{check_at}
+use Rattle.levels.specs.Deciders.{Table, table_in, tables_at, table_fields}
 use Rattle.publications.specs.declared.PublicationHead.{PublicationHead}
 use Rattle.publications.specs.Reading.{Makes, head_at, rows_in, unsaid, coverage_judge, known_tables, known_makes, reads}
 
@@ -13,39 +10,9 @@ use Rattle.publications.specs.Reading.{Makes, head_at, rows_in, unsaid, coverage
 abbrev pub TablesRead : List Table → ℕ → ℕ → List ℕ → ℕ → ℕ → Result (Unit {0}) Refusal → Type 0
 TablesRead ts level hashes input at at2 r = MatchResult r (λ _. (bs : List (List ℕ)) × (tables_at ts level hashes input at ≡ Ok bs) × (at2 ≡ at + length (table_fields level bs))) (λ e. tables_at ts level hashes input at ≡ Err e)
 
-module _ {S : Type 0} (d : Decides S) (saves : Saves S) (tabled : SavesTables d saves) (h : Hashing) (input : List ℕ) (at at2 : ℕ) where
-  found : (s : S) (t : Result (List (List ℕ)) Refusal) → then {B = S × ℕ} t (λ bs. Ok (saves.restore h bs, at + length (table_fields h.level bs))) ≡ Ok (s, at2) → (bs : List (List ℕ)) × (t ≡ Ok bs) × (at2 ≡ at + length (table_fields h.level bs))
-  found s (Ok bs) e =
-      let q : ◌≡◌ {A = S × ℕ} (saves.restore h bs, at + length (table_fields h.level bs)) (s, at2) = cc in
-      (bs, refl, sym (ap (λ (p : S × ℕ). p.1) q))
-  found s (Err x) e = absurd (never x (s, at2) e)
-
-  missed : (x : Refusal) (t : Result (List (List ℕ)) Refusal) → then {B = S × ℕ} t (λ bs. Ok (saves.restore h bs, at + length (table_fields h.level bs))) ≡ Err x → t ≡ Err x
-  missed x (Ok bs) e = absurd (never x (saves.restore h bs, at + length (table_fields h.level bs)) (sym e))
-  missed x (Err y) e = let q : y ≡ x = cc in ap Err q
-
-  pub tables_judged : (r : Result (Unit {0}) Refusal) → MatchResult r (λ _. (s : S) × (d.loads h input at ≡ Ok (s, at2))) (λ e. d.loads h input at ≡ Err e) → TablesRead saves.tables h.level h.hashes input at at2 r
-  tables_judged (Ok u) (s, e) = found s (tables_at saves.tables h.level h.hashes input at) (sym (tabled.from_fields h input at) ∙ e)
-  tables_judged (Err x) e = missed x (tables_at saves.tables h.level h.hashes input at) (sym (tabled.from_fields h input at) ∙ e)
-
--- the tables of a make that is known
-module _ (one two mine : List Table) (own make : ℕ) where
-  pub make_own : eqb make own ≡ true → known_tables (known_makes one two mine own make) ≡ mine
-  make_own e = rw e
-
-  pub make_one : eqb make own ≡ false → eqb make 1 ≡ true → known_tables (known_makes one two mine own make) ≡ one
-  make_one e f = rw (e, f)
-
-  pub make_two : eqb make own ≡ false → eqb make 1 ≡ false → eqb make 2 ≡ true → known_tables (known_makes one two mine own make) ≡ two
-  make_two e f g = rw (e, f, g)
-
-  pub make_none : eqb make own ≡ false → eqb make 1 ≡ false → eqb make 2 ≡ false → known_tables (known_makes one two mine own make) ≡ []
-  make_none e f g = rw (e, f, g)
-
-module _ (ts us : List Table) (hashes : ℕ) (input : List ℕ) (at at2 : ℕ) (r : Result (Unit {0}) Refusal) where
-  -- the tables of a make are judged as those of its levels
-  pub read_as : us ≡ ts → TablesRead ts 1 hashes input at at2 r → TablesRead us 1 hashes input at at2 r
-  read_as e t = subst (λ (xs : List Table). TablesRead xs 1 hashes input at at2 r) (sym e) t
+-- a make that is not known has no table
+pub make_none : (one two mine : List Table) (own make : ℕ) → eqb make own ≡ false → eqb make 1 ≡ false → eqb make 2 ≡ false → known_tables (known_makes one two mine own make) ≡ []
+make_none one two mine own make e f g = rw (e, f, g)
 
 -- no table is read of no make
 pub none_read : (ts : List Table) (hashes : ℕ) (input : List ℕ) (at : ℕ) → ts ≡ [] → TablesRead ts 1 hashes input at at (Ok tt)

@@ -3,10 +3,10 @@ use Rattle.std.proofs.Common.{◌≡◌, ℕ, ◌+◌, ◌-◌, ◌*◌, ◌/◌
 use lib.Bits.{bit_and}
 use borrow.Rule.Slice.PartMut.{put_mid}
 use Rattle.std.proofs.lemmas.Nat.{and_mask}
-use Rattle.std.proofs.lemmas.List.{append_assoc, length-append, length-drop}
+use Rattle.std.proofs.lemmas.List.{append_assoc, length-append}
 use Rattle.std.proofs.lemmas.Bool.{cases_Bool, cases_lt, cond-false, le-leb, lt-leb, leb-true, leb-false}
 use Rattle.passes.specs.Outputs.{written_to}
-use Rattle.passes.proofs.Outputs.{Wrote, wrote, wrote_to, wrote_none, behind, chain}
+use Rattle.passes.proofs.Outputs.{Wrote, wrote, wrote_to, chain}
 use Rattle.fields.specs.Reading.{check_field, checked}
 use Rattle.fields.specs.Sealing.{sealed}
 use Rattle.fields.proofs.Readback.{length_field, check_length}
@@ -84,13 +84,6 @@ module _ (rs : List CoverageRow) (out out1 first : List ℕ) (fits : length (cov
   unfolding three
   header_wrote = let a = coverage_length rs in record { size = refl; room = (let z : 3 ≤ length out = omega arith in z); bytes = e ∙ ap (λ (t : List ℕ). t ++ drop 3 out) f }
 
-  pub rows_room : length (rows_bytes rs) ≤ length (take (length out1 - 3) (drop 3 out1))
-  unfolding three
-  rows_room =
-      let a = length_field 0x02 (rows_bytes rs) in
-      let b = ap length (behind three out out1 3 header_wrote) ∙ length-drop 3 out in
-      omega arith
-
   pub coverage_wrote : (part : List ℕ) (n : ℕ) → ◌≡◌ {A = Option ℕ × List ℕ} (Some n, part) (written_to (rows_bytes rs) (take (length out1 - 3) (drop 3 out1))) → ◌≡◌ {A = Option ℕ × List ℕ} (Some (3 + n), put_mid 3 (length out1 - 3) out1 part) (written_to (coverage_field rs) out)
   unfolding three
   coverage_wrote part n g = wrote_to (coverage_field rs) out (put_mid 3 (length out1 - 3) out1 part) (3 + n) (chain three (rows_bytes rs) out out1 part 3 n header_wrote (wrote (rows_bytes rs) (take (length out1 - 3) (drop 3 out1)) part n g))
@@ -100,34 +93,13 @@ module _ (h : PublicationHead) (rs : List CoverageRow) (tables out out1 : List �
   head_wrote : Wrote (head_field h) out out1 12
   head_wrote = let a = published_length h rs tables in record { size = refl; room = (let z : 12 ≤ length out = omega arith in z); bytes = e }
 
-  pub coverage_room : length (coverage_field rs) ≤ length (take (length out1 - 12) (drop 12 out1))
-  coverage_room =
-      let a = published_length h rs tables in
-      let c = coverage_length rs in
-      let b = ap length (behind (head_field h) out out1 12 head_wrote) ∙ length-drop 12 out in
-      omega arith
-
   module _ (part : List ℕ) (n : ℕ) (f : ◌≡◌ {A = Option ℕ × List ℕ} (Some n, part) (written_to (coverage_field rs) (take (length out1 - 12) (drop 12 out1)))) where
     both : Wrote (head_field h ++ coverage_field rs) out (put_mid 12 (length out1 - 12) out1 part) (12 + n)
     both = chain (head_field h) (coverage_field rs) out out1 part 12 n head_wrote (wrote (coverage_field rs) (take (length out1 - 12) (drop 12 out1)) part n f)
 
-    tables_room : length tables ≤ length (take (length (put_mid 12 (length out1 - 12) out1 part) - (12 + n)) (drop (12 + n) (put_mid 12 (length out1 - 12) out1 part)))
-    tables_room =
-        let a = published_length h rs tables in
-        let c = coverage_length rs in
-        let front = head_field h ++ coverage_field rs in
-        let l = length-append (head_field h) (coverage_field rs) in
-        let k : length (head_field h) ≡ 12 = refl in
-        let b = ap length (behind front out (put_mid 12 (length out1 - 12) out1 part) (12 + n) both) ∙ length-drop (length front) out in
-        omega arith
-
     module _ (last : List ℕ) where
       out2 : List ℕ
       out2 = put_mid 12 (length out1 - 12) out1 part
-
-      -- tables that fit are written
-      pub not_none : ◌≡◌ {A = Option ℕ × List ℕ} (None, last) (written_to tables (take (length (put_mid 12 (length out1 - 12) out1 part) - (12 + n)) (drop (12 + n) (put_mid 12 (length out1 - 12) out1 part)))) → ⊥
-      not_none g = let a = wrote_none tables _ last g in let b = tables_room in omega arith
 
       pub publication_wrote : (m : ℕ) → ◌≡◌ {A = Option ℕ × List ℕ} (Some m, last) (written_to tables (take (length (put_mid 12 (length out1 - 12) out1 part) - (12 + n)) (drop (12 + n) (put_mid 12 (length out1 - 12) out1 part)))) → (res : Option ℕ) (final : List ℕ) → ◌≡◌ {A = Option ℕ × List ℕ} (res, final) (sealed (12 + n + m) (put_mid (12 + n) (length (put_mid 12 (length out1 - 12) out1 part) - (12 + n)) (put_mid 12 (length out1 - 12) out1 part) last)) → ◌≡◌ {A = Option ℕ × List ℕ} (res, final) (written_to (published h rs tables) out)
       unfolding out2

@@ -1,6 +1,5 @@
 -- The word in a body.
-use Rattle.std.proofs.Common.{◌≡◌, ℕ, ◌+◌, ◌-◌, ◌≤◌, true, false, ◌&&◌, leb, List, length, get_or, take, drop, Ok, Err, sym, ap, ◌∙◌, ⊎_elim, arith, length-drop}
-use Rattle.std.proofs.lemmas.List.{take_rest}
+use Rattle.std.proofs.Common.{◌≡◌, ℕ, ◌+◌, ◌≤◌, true, false, ◌&&◌, leb, List, length, get_or, drop, Ok, sym, ap, ◌∙◌, ⊎_elim, arith, length-drop}
 use Rattle.std.proofs.lemmas.Bool.{cases_Bool, cond-true, cond-false, leb-true, and_parts}
 use Rattle.refusals.specs.declared.Reason.TheVariants.{BadValue, NotAscending}
 use Rattle.passes.specs.Lawful.{lawful}
@@ -9,26 +8,6 @@ use Rattle.fields.proofs.Steps.{never}
 use Rattle.sheets.specs.Sides.{side_of}
 use Rattle.sheets.specs.Sheets.{Word}
 use Rattle.sheets.specs.Reading.{word_in}
-
--- the word in a body, whose form is what is behind the side
-module _ (last body : List ℕ) where
-  pub no_word : (leb (get_or body 0 0) 1 && lawful (take (length body - 1) (drop 1 body))) ≡ false → word_in last body ≡ Err BadValue
-  no_word t = let f = take_rest body 1 in let u : (leb (get_or body 0 0) 1 && lawful (drop 1 body)) ≡ false = rw f at t in rw u
-
-  module _ (t : (leb (get_or body 0 0) 1 && lawful (take (length body - 1) (drop 1 body))) ≡ true) where
-    pub no_order : before last (take (length body - 1) (drop 1 body)) ≡ false → word_in last body ≡ Err NotAscending
-    no_order s =
-        let f = take_rest body 1 in
-        let u : (leb (get_or body 0 0) 1 && lawful (drop 1 body)) ≡ true = rw f at t in
-        let v : before last (drop 1 body) ≡ false = rw f at s in
-        rw (u, v)
-
-    pub word_read : before last (take (length body - 1) (drop 1 body)) ≡ true → word_in last body ≡ Ok (record { side = side_of (get_or body 0 0); form = take (length body - 1) (drop 1 body) })
-    word_read s =
-        let f = take_rest body 1 in
-        let u : (leb (get_or body 0 0) 1 && lawful (drop 1 body)) ≡ true = rw f at t in
-        let v : before last (drop 1 body) ≡ true = rw f at s in
-        rw (u, v, f)
 
 -- the parts of a word that was found
 pub record Found (last b : List ℕ) (w : Word) : Type 0 where

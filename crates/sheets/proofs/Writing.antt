@@ -1,34 +1,17 @@
 -- Fields written one behind the other.
-use Rattle.std.proofs.Common.{◌≡◌, ℕ, ◌+◌, ◌-◌, ◌/◌, ◌%◌, ◌<◌, ◌≤◌, Bool, true, false, leb, List, [], ◌∷◌, ◌++◌, map, length, get_or, take, drop, Some, Option, sym, refl, ap, ◌∙◌, ⊎_elim, arith}
-use lib.Bits.{bit_and}
+use Rattle.std.proofs.Common.{◌≡◌, ℕ, ◌+◌, ◌-◌, ◌<◌, ◌≤◌, Bool, false, leb, List, [], ◌∷◌, ◌++◌, map, length, get_or, take, drop, Some, Option, sym, refl, ap, ◌∙◌, arith}
 use borrow.Rule.Slice.PartMut.{put_mid}
-use Rattle.std.proofs.lemmas.Nat.{and_mask}
-use Rattle.std.proofs.lemmas.List.{length-append, length-drop, drop-drop, drop_more}
-use Rattle.std.proofs.lemmas.Bool.{cases_Bool, le-leb, lt-leb, leb-true, leb-false}
+use Rattle.std.proofs.lemmas.List.{length-append, length-drop, drop_more}
+use Rattle.std.proofs.lemmas.Bool.{lt-leb}
 use Rattle.fields.specs.Sealing.{sealed}
 use Rattle.fields.proofs.Sealed.{seal_wrote}
 use Rattle.passes.specs.Outputs.{written_to, joined}
 use Rattle.passes.proofs.Outputs.{Wrote, wrote, behind, chain}
-use Rattle.sheets.specs.Sides.{side_byte}
 use Rattle.sheets.specs.declared.SheetHead.{SheetHead}
 use Rattle.sheets.specs.declared.SheetWord.{SheetWord}
 use Rattle.sheets.specs.Sheets.{head_field, word_field, word_fields, writes}
 use Rattle.sheets.specs.Stages.{word_of, sheet_of}
 use Rattle.sheets.proofs.Layouts.{writes_length}
-
--- a word: four bytes, and the form behind them
-pub word_bytes : (w : SheetWord) (n : ℕ) (out first form : List ℕ) → n ≡ length w.form.now → first ≡ 0x22 ∷ (bit_and (1 + n) 65535 / 256 % 256) ∷ (bit_and (1 + n) 65535 % 256) ∷ side_byte w.side ∷ [] → form ≡ w.form.now → put_mid 4 (4 + n - 4) (first ++ drop 4 out) form ≡ word_field (word_of w) ++ drop (4 + length w.form.now) out
-word_bytes w n out first form e f g =
-    let m = and_mask (1 + n) 16 in
-    let body = side_byte w.side ∷ w.form.now in
-    let a : bit_and (1 + n) 65535 / 256 % 256 ≡ length body / 256 % 256 = omega arith in
-    let b : bit_and (1 + n) 65535 % 256 ≡ length body % 256 = omega arith in
-    let head = 0x22 ∷ (length body / 256 % 256) ∷ (length body % 256) ∷ side_byte w.side ∷ [] in
-    let h : first ≡ head = cc in
-    let k : 4 + n - 4 ≡ length w.form.now = omega arith in
-    ap (λ (t : List ℕ). put_mid 4 (4 + n - 4) (t ++ drop 4 out) form) h
-    ∙ ap (λ (t : List ℕ). head ++ (form ++ t)) (ap (λ (j : ℕ). drop j (drop 4 out)) k ∙ drop-drop (length w.form.now) 4 out)
-    ∙ ap (λ (t : List ℕ). head ++ (t ++ drop (4 + length w.form.now) out)) g
 
 -- the fields of words
 abbrev pub spelled : List SheetWord → List ℕ
@@ -54,16 +37,6 @@ module _ (ws : List SheetWord) (i : ℕ) (d : SheetWord) (l : i < length ws) whe
   module _ (left : ℕ) (total : Bool) (j : leb (17 + length (spelled (drop i ws))) left ≡ total) where
     pub too_long : left < 4 + length (get_or ws i d).form.now → false ≡ total
     too_long m = let z = left_less in sym (lt-leb (17 + length (spelled (drop i ws))) left (omega arith)) ∙ j
-
-    pub still_fits : 4 + length (get_or ws i d).form.now ≤ left → leb (17 + length (spelled (drop (i + 1) ws))) (left - (4 + length (get_or ws i d).form.now)) ≡ total
-    still_fits m =
-        let z = left_less in
-        let rest = 17 + length (spelled (drop (i + 1) ws)) in
-        let now_left = left - (4 + length (get_or ws i d).form.now) in
-        ⊎_elim
-        (λ (t : leb rest now_left ≡ true). let p = leb-true rest now_left t in t ∙ sym (le-leb (17 + length (spelled (drop i ws))) left (omega arith)) ∙ j)
-        (λ (t : leb rest now_left ≡ false). let p = leb-false rest now_left t in t ∙ sym (lt-leb (17 + length (spelled (drop i ws))) left (omega arith)) ∙ j)
-        (cases_Bool (leb rest now_left))
 
 -- the whole length, under any head
 pub under_head : (h : SheetHead) (ws : List SheetWord) (room : ℕ) → leb (17 + length (spelled ws)) room ≡ leb (length (writes (sheet_of h ws))) room
