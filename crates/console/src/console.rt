@@ -1,6 +1,6 @@
 ghost use Rattle.std.specs.Prelude.{◌≡◌, ◌+◌, ◌-◌, ◌^◌, min, not, map, is_some, IfOk, string_bytes};
 ghost use Rattle.desk.specs.Held.{Fresh};
-ghost use Rattle.console.specs.Lines.{comment, ignored, Answered};
+ghost use Rattle.console.specs.Lines.{ignored, Answered};
 
 use desk::Desk;
 use std::alloc::{AllocError, Global};
@@ -27,24 +27,13 @@ pub enum Outcome {
     Failed,
 }
 
-/// Whether a line with this first word is a comment.
-fn is_comment(first: &[u8]) -> bool
-    ensures { result ≡ comment first.now }
-{
-    matches!(first, [b'#', ..])
-}
-
 /// The first word of a line and those behind it; none if the line is blank or a comment.
 fn heeded<'a>(words: &'a [&'a [u8]]) -> Option<(&'a [u8], &'a [&'a [u8]])>
     ensures { is_some result ≡ not (ignored (map (λ w. w.now) words.now)) }
 {
-    let [first, rest @ ..] = words else {
-        return None;
-    };
-    if is_comment(first) {
-        None
-    } else {
-        Some((first, rest))
+    match words {
+        [] | [[b'#', ..], ..] => None,
+        [first, rest @ ..] => Some((first, rest)),
     }
 }
 

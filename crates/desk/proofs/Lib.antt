@@ -1,3 +1,3 @@
-pub mod Added
-pub mod Entered
 pub mod Loads
+pub mod Reach
+pub mod Turned

@@ -4,7 +4,7 @@ use Rattle.desk.specs.declared.faults.Fault.{Fault}
 use Rattle.desk.specs.declared.faults.Fault.TheVariants.{Memory, Usage, NumberTooLarge, NoSuchBuffer, BufferTooLong, NoFilter, RegisterMixed, RegisterFull, PastTheEnd, NoPlan, NoSuchMake, NoLevels, Refused}
 
 abbrev pub foreseen : Fault → Bool
-foreseen Memory = false
+foreseen (Memory e) = false
 foreseen Usage = true
 foreseen NumberTooLarge = true
 foreseen NoSuchBuffer = true

@@ -3,7 +3,9 @@ pub mod Drafts
 pub mod Faults
 pub mod Filters
 pub mod Held
+pub mod Makes
 pub mod Passes
 pub mod Registers
+pub mod Saving
 pub mod Sources
 pub mod Spans

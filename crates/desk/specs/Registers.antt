@@ -3,6 +3,7 @@ use Rattle.std.specs.Prelude.{ℕ, zero, suc, ◌+◌, ◌*◌, ◌%◌, max, co
 use Rattle.levels.specs.declared.Entry.{Entry}
 use Rattle.levels.specs.declared.Side.{Side}
 use Rattle.levels.specs.declared.Side.TheVariants.{For, Against}
+use Rattle.levels.specs.Deciders.{other}
 use Rattle.desk.specs.declared.pass.Pass.{Pass}
 use Rattle.desk.specs.declared.register.Sides.{Sides}
 use Rattle.desk.specs.declared.register.Sides.TheVariants.{All, Every}
@@ -19,12 +20,8 @@ unfoldable pub entries : Sides → Span → ℕ → List (Entry Pass)
 entries sides s zero = []
 entries sides s (suc n) = entries sides s n ++ record { id = pass_at s n; side = side_at sides n } ∷ []
 
-abbrev pub other_side : Side → Side
-other_side For = Against
-other_side Against = For
-
 abbrev pub turned_entry : Entry Pass → Entry Pass
-turned_entry e = record { id = e.id; side = other_side e.side }
+turned_entry e = record { id = e.id; side = other e.side }
 
 -- the entry at a place turned
 unfoldable pub turned_at : ℕ → List (Entry Pass) → List (Entry Pass)

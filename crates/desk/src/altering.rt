@@ -1,182 +1,94 @@
-//! The commands on buffers, and those that make a buffer or change its bytes.
-ghost use Rattle.std.specs.Prelude.{◌≡◌, true};
-ghost use Rattle.desk.specs.Faults.{undone};
-
-use crate::arguments::Words;
-use crate::buffers::Buffers;
-use crate::commands::BufferCommand;
+//! The commands that make a buffer or change its bytes. Each gives the buffer; it is written elsewhere.
+use crate::buffers::{Buffer, Buffers};
 use crate::faults::Fault;
-use crate::{arguments, buffers, bytes, contents};
-use std::alloc::Global;
+use crate::line::Line;
+use crate::{arguments, bytes};
 
-/// Does a command on the buffers.
-pub(crate) fn run(
-    all: &mut Buffers,
-    command: BufferCommand,
-    heap: Global,
-    words: Words<'_>,
-    out: &mut String,
-) -> Result<(), Fault>
-    ensures { undone result ≡ true → all.new ≡ all.old }
-{
-    match command {
-        BufferCommand::Bytes => buffers::bytes(all, heap, words, out),
-        BufferCommand::Fill => fill(all, heap, words, out),
-        BufferCommand::Copy => copy(all, heap, words, out),
-        BufferCommand::Show => buffers::show(all, words, out),
-        BufferCommand::Sum => buffers::sum(all, words, out),
-        BufferCommand::Read => contents::read(all, words, out),
-        BufferCommand::Flip => flip(all, heap, words, out),
-        BufferCommand::Cut => cut(all, heap, words, out),
-        BufferCommand::Append => append(all, heap, words, out),
-        BufferCommand::Field => field(all, heap, words, out),
-        BufferCommand::Check => check(all, heap, words, out),
-        BufferCommand::Seal => seal(all, heap, words, out),
-    }
+/// A buffer that holds the bytes of a word.
+pub(crate) fn bytes(line: &Line<'_>) -> Result<Buffer, Fault> {
+    let [name, hex] = line.words else {
+        return Err(Fault::Usage);
+    };
+    let name = arguments::name(name)?;
+    Buffer::new(line.heap, name, arguments::bytes(line.heap, hex)?)
 }
 
-/// Makes a buffer hold a byte so many times.
-fn fill(
-    buffers: &mut Buffers,
-    heap: Global,
-    words: Words<'_>,
-    out: &mut String,
-) -> Result<(), Fault>
-    ensures { undone result ≡ true → buffers.new ≡ buffers.old }
-{
-    let [name, length, byte] = words else {
+/// A buffer that holds a byte so many times.
+pub(crate) fn fill(line: &Line<'_>) -> Result<Buffer, Fault> {
+    let [name, length, byte] = line.words else {
         return Err(Fault::Usage);
     };
     let name = arguments::name(name)?;
     let length = arguments::length(length)?;
-    let byte = arguments::byte(heap, byte)?;
-    let bytes = vec![in heap; byte; length]?;
-    buffers.write(heap, name, bytes, out)
+    let byte = arguments::byte(line.heap, byte)?;
+    Buffer::new(line.heap, name, vec![in line.heap; byte; length]?)
 }
 
-/// Makes a buffer hold what another holds.
-fn copy(
-    buffers: &mut Buffers,
-    heap: Global,
-    words: Words<'_>,
-    out: &mut String,
-) -> Result<(), Fault>
-    ensures { undone result ≡ true → buffers.new ≡ buffers.old }
-{
-    let [name, to] = words else {
+/// A buffer that holds what another holds.
+pub(crate) fn copy(buffers: &Buffers, line: &Line<'_>) -> Result<Buffer, Fault> {
+    let [name, to] = line.words else {
         return Err(Fault::Usage);
     };
     let name = arguments::name(name)?;
     let to = arguments::name(to)?;
-    let bytes = buffers.copied(heap, name)?;
-    buffers.write(heap, to, bytes, out)
+    let bytes = Vec::from_slice(line.heap, buffers.get(name)?)?;
+    Buffer::new(line.heap, to, bytes)
 }
 
-/// Changes bits of one byte of a buffer.
-fn flip(
-    buffers: &mut Buffers,
-    heap: Global,
-    words: Words<'_>,
-    out: &mut String,
-) -> Result<(), Fault>
-    ensures { undone result ≡ true → buffers.new ≡ buffers.old }
-{
-    let [name, offset, byte] = words else {
+/// A buffer with bits of one byte changed.
+pub(crate) fn flip(buffers: &Buffers, line: &Line<'_>) -> Result<Buffer, Fault> {
+    let [name, offset, byte] = line.words else {
         return Err(Fault::Usage);
     };
     let name = arguments::name(name)?;
     let offset = arguments::length(offset)?;
-    let byte = arguments::byte(heap, byte)?;
-    let mut bytes = buffers.copied(heap, name)?;
-    bytes::flip(&mut bytes, offset, byte)?;
-    buffers.write(heap, name, bytes, out)
+    let byte = arguments::byte(line.heap, byte)?;
+    buffers.changed(line.heap, name, |bytes| bytes::flip(bytes, offset, byte))
 }
 
-/// Keeps the first bytes of a buffer.
-fn cut(buffers: &mut Buffers, heap: Global, words: Words<'_>, out: &mut String) -> Result<(), Fault>
-    ensures { undone result ≡ true → buffers.new ≡ buffers.old }
-{
-    let [name, length] = words else {
+/// A buffer of which the first bytes are kept.
+pub(crate) fn cut(buffers: &Buffers, line: &Line<'_>) -> Result<Buffer, Fault> {
+    let [name, length] = line.words else {
         return Err(Fault::Usage);
     };
     let name = arguments::name(name)?;
     let length = arguments::length(length)?;
-    let mut bytes = buffers.copied(heap, name)?;
-    bytes::shorten(&mut bytes, length)?;
-    buffers.write(heap, name, bytes, out)
+    buffers.changed(line.heap, name, |bytes| bytes::shorten(bytes, length))
 }
 
-/// Adds bytes at the end of a buffer.
-fn append(
-    buffers: &mut Buffers,
-    heap: Global,
-    words: Words<'_>,
-    out: &mut String,
-) -> Result<(), Fault>
-    ensures { undone result ≡ true → buffers.new ≡ buffers.old }
-{
-    let [name, hex] = words else {
+/// A buffer with bytes more at the end.
+pub(crate) fn append(buffers: &Buffers, line: &Line<'_>) -> Result<Buffer, Fault> {
+    let [name, hex] = line.words else {
         return Err(Fault::Usage);
     };
     let name = arguments::name(name)?;
-    let more = arguments::bytes(heap, hex)?;
-    let mut bytes = buffers.copied(heap, name)?;
-    bytes.extend_from_slice(&more)?;
-    buffers.write(heap, name, bytes, out)
+    let more = arguments::bytes(line.heap, hex)?;
+    buffers.changed(line.heap, name, |bytes| {
+        Ok(bytes.extend_from_slice(&more)?)
+    })
 }
 
-/// Adds a field at the end of a buffer.
-fn field(
-    buffers: &mut Buffers,
-    heap: Global,
-    words: Words<'_>,
-    out: &mut String,
-) -> Result<(), Fault>
-    ensures { undone result ≡ true → buffers.new ≡ buffers.old }
-{
-    let [name, tag, hex] = words else {
+/// A buffer with a field more at the end.
+pub(crate) fn field(buffers: &Buffers, line: &Line<'_>) -> Result<Buffer, Fault> {
+    let [name, tag, hex] = line.words else {
         return Err(Fault::Usage);
     };
     let name = arguments::name(name)?;
-    let tag = arguments::byte(heap, tag)?;
-    let body = arguments::bytes(heap, hex)?;
-    let mut bytes = buffers.copied(heap, name)?;
-    bytes::add_field(&mut bytes, tag, &body)?;
-    buffers.write(heap, name, bytes, out)
+    let tag = arguments::byte(line.heap, tag)?;
+    let body = arguments::bytes(line.heap, hex)?;
+    buffers.changed(line.heap, name, |bytes| {
+        Ok(bytes::add_field(bytes, tag, &body)?)
+    })
 }
 
-/// Adds the check of all bytes at the end of a buffer.
-fn check(
-    buffers: &mut Buffers,
-    heap: Global,
-    words: Words<'_>,
-    out: &mut String,
-) -> Result<(), Fault>
-    ensures { undone result ≡ true → buffers.new ≡ buffers.old }
-{
-    let [name] = words else {
-        return Err(Fault::Usage);
-    };
-    let name = arguments::name(name)?;
-    let mut bytes = buffers.copied(heap, name)?;
-    bytes::add_check(&mut bytes)?;
-    buffers.write(heap, name, bytes, out)
+/// A buffer with the check of all its bytes at the end.
+pub(crate) fn check(buffers: &Buffers, line: &Line<'_>) -> Result<Buffer, Fault> {
+    let name = line.name()?;
+    buffers.changed(line.heap, name, |bytes| Ok(bytes::add_check(bytes)?))
 }
 
-/// Makes the check at the end of a buffer right.
-fn seal(
-    buffers: &mut Buffers,
-    heap: Global,
-    words: Words<'_>,
-    out: &mut String,
-) -> Result<(), Fault>
-    ensures { undone result ≡ true → buffers.new ≡ buffers.old }
-{
-    let [name] = words else {
-        return Err(Fault::Usage);
-    };
-    let name = arguments::name(name)?;
-    let mut bytes = buffers.copied(heap, name)?;
-    bytes::reseal(&mut bytes)?;
-    buffers.write(heap, name, bytes, out)
+/// A buffer whose check at the end is right.
+pub(crate) fn seal(buffers: &Buffers, line: &Line<'_>) -> Result<Buffer, Fault> {
+    let name = line.name()?;
+    buffers.changed(line.heap, name, |bytes| bytes::reseal(bytes))
 }

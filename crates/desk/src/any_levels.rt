@@ -1,15 +1,18 @@
 //! The makes of levels, behind one type.
 ghost use Rattle.std.specs.Prelude.{◌≡◌, ℕ, IfOk, Ok, box_value};
 ghost use Rattle.levels.specs.Rows.{listed};
+ghost use Rattle.passes.specs.Outputs.{written_to};
 ghost use Rattle.piles.specs.Tries.{built_in};
 ghost use Rattle.desk.specs.Passes.{pass_form};
 ghost use Rattle.desk.specs.Sources.{ComesOf};
+ghost use Rattle.desk.specs.Makes.{NamesMake, make_of};
+ghost use Rattle.desk.specs.declared.any_levels.Make.TheVariants.{AllBloom as MakeAllBloom, CuckooFirst as MakeCuckooFirst};
 ghost use Rattle.desk.specs.declared.any_levels.AnyLevels.TheVariants.{AllBloom, CuckooFirst};
 
-use crate::buffers::LONGEST;
 use crate::faults::Fault;
 use crate::pass::Pass;
 use crate::plans::Plan;
+use crate::saving::saved;
 use bloom::table::Bloom;
 use cuckoo::table::Cuckoo;
 use filters::{Filter, Hashing};
@@ -20,23 +23,43 @@ use piles::pile::load_fields;
 use piles::retry::Retry;
 use std::alloc::Global;
 
+/// A make of levels that can be had, with its number.
+#[derive(Clone, Copy)]
+pub enum Make {
+    /// every level is Bloom
+    AllBloom = 1,
+    /// the first level is cuckoo
+    CuckooFirst = 2,
+}
+
+impl TryFrom<u8> for Make {
+    type Error = Fault;
+
+    ghost try_from_gives = { NamesMake };
+
+    fn try_from(number: u8) -> Result<Self, Fault> {
+        match number {
+            1 => Ok(Make::AllBloom),
+            2 => Ok(Make::CuckooFirst),
+            _ => Err(Fault::NoSuchMake),
+        }
+    }
+}
+
 /// Six levels, the first of some kind and the others Bloom, over an exact end, and the retry layer above.
-pub type Make<F> = Retry<BloomBelow<F>>;
+pub type Tower<F> = Retry<BloomBelow<F>>;
 
 /// Levels of some make.
 #[derive(Drop)]
 pub enum AnyLevels {
-    /// make 1
-    AllBloom(Box<Make<Bloom>>),
-    /// make 2
-    CuckooFirst(Box<Make<Cuckoo>>),
+    AllBloom(Box<Tower<Bloom>>),
+    CuckooFirst(Box<Tower<Cuckoo>>),
 }
 
-/// Levels with the number of their make, the salt of level 1, and the fields that they save.
+/// Levels with the salt of level 1, and the fields that they save.
 #[derive(Drop)]
 pub struct Levels {
     any: AnyLevels,
-    pub(crate) make: u8,
     pub(crate) salt: u16,
     pub(crate) fields: Vec<u8>,
 }
@@ -86,15 +109,15 @@ fn loaded<D: Decider + Drop>(
 }
 
 /// The fields that levels save, the first being level 1.
-fn saved<D: Decider>(heap: Global, levels: &D) -> Result<Vec<u8>, Fault>
+fn fields<D: Decider>(heap: Global, levels: &D) -> Result<Vec<u8>, Fault>
     ensures { IfOk result (λ v. v.items ≡ D.Decider.decider.saved 1 (D.Decider.state levels.now)) }
 {
-    let mut bytes = vec![in heap; 0; LONGEST]?;
-    let Some(length) = levels.save(1, &mut bytes) else {
-        return Err(Fault::BufferTooLong);
-    };
-    bytes.truncate(length);
-    Ok(bytes)
+    saved(
+        heap,
+        |out|
+            ensures { (result, out.new) ≡ written_to (D.Decider.decider.saved 1 (D.Decider.state levels.entry.now)) out.old }
+        { levels.save(1, out) },
+    )
 }
 
 /// New levels from a source, with the salt of level 1.
@@ -122,17 +145,17 @@ fn fresh<D: Decider + Drop>(
     ensures saved { IfOk result (λ p. p.2.items ≡ D.Decider.decider.saved 1 (D.Decider.state (box_value p.0).below)) }
 {
     let (levels, salt) = sourced(heap, source)?;
-    let fields = saved(heap, &*levels)?;
+    let fields = fields(heap, &*levels)?;
     Ok((levels, salt, fields))
 }
 
 impl Levels {
     /// New levels of a make.
-    pub(crate) fn new(heap: Global, make: u8, source: Source<'_>) -> Result<Levels, Fault>
-        ensures make { IfOk result (λ l. l.make ≡ make) }
+    pub(crate) fn new(heap: Global, make: Make, source: Source<'_>) -> Result<Levels, Fault>
+        ensures make { IfOk result (λ l. make_of l.any ≡ make) }
         ensures sourced { IfOk result (λ l. elim l.any [
-          | AllBloom b ↦ (make ≡ 1) × ComesOf ⟦<BloomBelow<Bloom> as Decider>⟧.decider source.entry (⟦<BloomBelow<Bloom> as Decider>⟧.state (box_value b).below) l.salt
-          | CuckooFirst b ↦ (make ≡ 2) × ComesOf ⟦<BloomBelow<Cuckoo> as Decider>⟧.decider source.entry (⟦<BloomBelow<Cuckoo> as Decider>⟧.state (box_value b).below) l.salt
+          | AllBloom b ↦ (make ≡ MakeAllBloom) × ComesOf ⟦<BloomBelow<Bloom> as Decider>⟧.decider source.entry (⟦<BloomBelow<Bloom> as Decider>⟧.state (box_value b).below) l.salt
+          | CuckooFirst b ↦ (make ≡ MakeCuckooFirst) × ComesOf ⟦<BloomBelow<Cuckoo> as Decider>⟧.decider source.entry (⟦<BloomBelow<Cuckoo> as Decider>⟧.state (box_value b).below) l.salt
         ]) }
         ensures saved { IfOk result (λ l. elim l.any [
           | AllBloom b ↦ l.fields.items ≡ ⟦<BloomBelow<Bloom> as Decider>⟧.decider.saved 1 (⟦<BloomBelow<Bloom> as Decider>⟧.state (box_value b).below)
@@ -140,22 +163,26 @@ impl Levels {
         ]) }
     {
         let (any, salt, fields) = match make {
-            1 => {
+            Make::AllBloom => {
                 let (levels, salt, fields) = fresh(heap, source)?;
                 (AnyLevels::AllBloom(levels), salt, fields)
             }
-            2 => {
+            Make::CuckooFirst => {
                 let (levels, salt, fields) = fresh(heap, source)?;
                 (AnyLevels::CuckooFirst(levels), salt, fields)
             }
-            _ => return Err(Fault::NoSuchMake),
         };
-        Ok(Levels {
-            any,
-            make,
-            salt,
-            fields,
-        })
+        Ok(Levels { any, salt, fields })
+    }
+
+    /// Their make.
+    pub(crate) fn make(&self) -> Make
+        ensures { result ≡ make_of self.now.any }
+    {
+        match self.any {
+            AnyLevels::AllBloom(_) => Make::AllBloom,
+            AnyLevels::CuckooFirst(_) => Make::CuckooFirst,
+        }
     }
 
     /// The side of a pass, and the source of the decision.

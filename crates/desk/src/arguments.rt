@@ -1,5 +1,6 @@
 //! What the words behind a command stand for.
 use crate::faults::Fault;
+use crate::line::Words;
 use crate::numbers::Numbers;
 use crate::pass::Pass;
 use crate::register::Sides;
@@ -10,62 +11,52 @@ use passes::tag::Tag;
 use std::alloc::Global;
 use words::{hex, names, numbers};
 
-/// The words behind a command.
-pub type Words<'a> = &'a [&'a [u8]];
-
 /// A number from `low` to `high`, in a type that has room for it.
-macro_rules! number {
-    ($word:expr, $low:expr, $high:expr, $type:ty) => {
-        match numbers::number($word, $low, $high) {
-            Some(n) => Ok(n as $type),
-            None => Err(Fault::Usage),
-        }
-    };
+fn within<T: TryFrom<u64>>(word: &[u8], low: u64, high: u64) -> Result<T, Fault>
+where
+    T::Error: Drop,
+{
+    let number = numbers::number(word, low, high).ok_or(Fault::Usage)?;
+    T::try_from(number).map_err(|_| Fault::Usage)
 }
 
-/// A number of one byte: a make, a hash count, an edition.
-pub(crate) fn number8(word: &[u8]) -> Result<u8, Fault> {
-    number!(word, 0, 0xFF, u8)
-}
-
-/// A number of two bytes: an issuer, a day, a salt, a step or a table size.
-pub(crate) fn number16(word: &[u8]) -> Result<u16, Fault> {
-    number!(word, 0, 0xFFFF, u16)
-}
-
-/// A number of four bytes: a seed, or that of a publication.
-pub(crate) fn number32(word: &[u8]) -> Result<u32, Fault> {
-    number!(word, 0, 0xFFFF_FFFF, u32)
-}
-
-/// A number of eight bytes: that of a tag, or of a span.
-fn number64(word: &[u8]) -> Result<u64, Fault> {
-    number!(word, 0, u64::MAX, u64)
+/// A number that its type has room for: of one byte, as a make, a hash count or an edition; of two, as an issuer, a day, a salt, a step or a
+/// table size; of four, as a seed or the number of a publication; or of eight, as the number of a tag or of a span.
+pub(crate) fn number<T: TryFrom<u64>>(word: &[u8]) -> Result<T, Fault>
+where
+    T::Error: Drop,
+{
+    within(word, 0, u64::MAX)
 }
 
 /// A level.
 pub(crate) fn level(word: &[u8]) -> Result<u8, Fault> {
-    number!(word, 1, 7, u8)
+    within(word, 1, 7)
 }
 
 /// How many bytes the serials of a span have.
 fn serial_length(word: &[u8]) -> Result<u8, Fault> {
-    number!(word, 1, 20, u8)
+    within(word, 1, 20)
 }
 
 /// How many passes: of a span, or from one blocked pass to the next.
 pub(crate) fn count(word: &[u8]) -> Result<u16, Fault> {
-    number!(word, 1, 8192, u16)
+    within(word, 1, 8192)
 }
 
 /// The index of a pass in the register, or a distance in it.
 pub(crate) fn index(word: &[u8]) -> Result<usize, Fault> {
-    number!(word, 0, 8192, usize)
+    within(word, 0, 8192)
 }
 
 /// A number of bytes: the length of a buffer, an offset in it, or that of work bytes.
 pub(crate) fn length(word: &[u8]) -> Result<usize, Fault> {
-    number!(word, 0, 65_536, usize)
+    within(word, 0, 65_536)
+}
+
+/// A table size.
+pub(crate) fn table_size(word: &[u8]) -> Result<usize, Fault> {
+    within(word, 0, 0xFFFF)
 }
 
 /// Bytes in hexadecimal digits.
@@ -91,12 +82,12 @@ pub(crate) fn name(word: &[u8]) -> Result<&str, Fault> {
 pub(crate) fn pass(heap: Global, words: Words<'_>) -> Result<Pass, Fault> {
     match words {
         [b"tag", issuer, number] => {
-            let issuer = number16(issuer)?;
-            let number = number64(number)?;
+            let issuer = self::number(issuer)?;
+            let number = self::number(number)?;
             Ok(Pass::Tag(Tag { issuer, number }))
         }
         [b"chip", issuer, serial] => {
-            let issuer = number16(issuer)?;
+            let issuer = number(issuer)?;
             let serial = bytes(heap, serial)?;
             let mut chip = ChipPass::new();
             chip.fill(issuer, &serial)?;
@@ -122,6 +113,7 @@ fn is_every(word: &[u8]) -> bool {
 
 /// Many passes with their sides.
 pub(crate) fn sided_span(words: Words<'_>) -> Result<(Span, Sides), Fault> {
+    // not `[passes @ .., b"every", distance]`: a pattern with text behind `..` gets no proof
     let [front @ .., last] = words else {
         return Err(Fault::Usage);
     };
@@ -139,8 +131,8 @@ pub(crate) fn sided_span(words: Words<'_>) -> Result<(Span, Sides), Fault> {
 
 /// The numbers of a span.
 fn span_numbers(first: &[u8], step: &[u8], count: &[u8]) -> Result<Numbers, Fault> {
-    let first = number64(first)?;
-    let step = number64(step)?;
+    let first = number(first)?;
+    let step = number(step)?;
     let count = self::count(count)?;
     Numbers::new(first, step, count).ok_or(Fault::NumberTooLarge)
 }
@@ -149,12 +141,12 @@ fn span_numbers(first: &[u8], step: &[u8], count: &[u8]) -> Result<Numbers, Faul
 pub(crate) fn span(words: Words<'_>) -> Result<Span, Fault> {
     match words {
         [b"tag", issuer, first, step, count] => {
-            let issuer = number16(issuer)?;
+            let issuer = number(issuer)?;
             let numbers = span_numbers(first, step, count)?;
             Ok(Span::new(SpanKind::Tags, issuer, numbers))
         }
         [b"chip", issuer, length, first, step, count] => {
-            let issuer = number16(issuer)?;
+            let issuer = number(issuer)?;
             let length = serial_length(length)?;
             let numbers = span_numbers(first, step, count)?;
             Ok(Span::new(SpanKind::Chips(length), issuer, numbers))

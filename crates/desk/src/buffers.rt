@@ -1,18 +1,43 @@
-//! The buffers, and the commands on them.
-ghost use Rattle.std.specs.Prelude.{◌≡◌, true, [], vec_len, nat_lt};
+//! The buffers, and the commands that show them.
+ghost use Rattle.std.specs.Prelude.{◌≡◌, ◌≤◌, [], IfOk, string_bytes, vec_len, nat_lt};
 ghost use Rattle.std.specs.BTreeMap.{keys};
 ghost use Rattle.desk.specs.Faults.{undone};
 
-use crate::arguments;
-use crate::arguments::Words;
 use crate::faults::Fault;
+use crate::line::Line;
 use crate::shown::Hex;
-use std::alloc::Global;
+use std::alloc::{AllocError, Global};
 use std::collections::BTreeMap;
-use std::fmt::Write;
 
 /// The length of the longest buffer.
 pub const LONGEST: usize = 65_536;
+
+/// A name, and the bytes that its buffer is to hold.
+#[derive(Drop)]
+pub struct Buffer {
+    name: String,
+    bytes: Vec<u8>,
+    ghost fits: { vec_len bytes ≤ 65536 },
+}
+
+impl Buffer {
+    /// A name with these bytes, unless they are too many.
+    pub(crate) fn new(heap: Global, name: &str, bytes: Vec<u8>) -> Result<Buffer, Fault>
+        ensures made { IfOk result (λ b. (string_bytes b.name ≡ name.now) × (b.bytes ≡ bytes)) }
+        ensures judged { undone result ≡ nat_lt 65536 (vec_len bytes) }
+    {
+        if bytes.len() > LONGEST {
+            return Err(Fault::BufferTooLong);
+        }
+        let name = String::from_str(heap, name)?;
+        Ok(Buffer { name, bytes })
+    }
+
+    /// How many bytes it has.
+    pub(crate) fn len(&self) -> usize {
+        self.bytes.len()
+    }
+}
 
 /// Byte strings with a name.
 #[derive(Drop)]
@@ -38,81 +63,51 @@ impl Buffers {
         }
     }
 
-    /// A copy of what the buffer of a name holds.
-    pub(crate) fn copied(&self, heap: Global, name: &str) -> Result<Vec<u8>, Fault> {
-        Ok(Vec::from_slice(heap, self.get(name)?)?)
+    /// The buffer of a name with its bytes changed; that of the desk stays as it is.
+    pub(crate) fn changed<F: FnOnce(&mut Vec<u8>) -> Result<(), Fault>>(
+        &self,
+        heap: Global,
+        name: &str,
+        change: F,
+    ) -> Result<Buffer, Fault>
+        requires { F.IsAlwaysCallable change }
+    {
+        let mut bytes = Vec::from_slice(heap, self.get(name)?)?;
+        change(&mut bytes)?;
+        Buffer::new(heap, name, bytes)
     }
 
-    /// Makes the buffer of a name hold these bytes, unless they are too many.
-    pub(crate) fn put(&mut self, heap: Global, name: &str, bytes: Vec<u8>) -> Result<(), Fault>
-        ensures judged { undone result ≡ nat_lt 65536 (vec_len bytes) }
-        ensures kept { undone result ≡ true → self.new ≡ self.old }
-    {
-        if bytes.len() > LONGEST {
-            return Err(Fault::BufferTooLong);
-        }
-        let key = String::from_str(heap, name)?;
-        self.all.insert(key, bytes)?;
+    /// Makes the buffer of its name hold its bytes.
+    pub(crate) fn put(&mut self, buffer: Buffer) -> Result<(), AllocError> {
+        let Buffer { name, bytes } = buffer;
+        self.all.insert(name, bytes)?;
         Ok(())
     }
 
     /// The same, and says so.
-    pub(crate) fn write(
-        &mut self,
-        heap: Global,
-        name: &str,
-        bytes: Vec<u8>,
-        out: &mut String,
-    ) -> Result<(), Fault>
-        ensures judged { undone result ≡ nat_lt 65536 (vec_len bytes) }
-        ensures kept { undone result ≡ true → self.new ≡ self.old }
-    {
-        let length = bytes.len();
-        self.put(heap, name, bytes)?;
-        writeln!(out, "buffer {name} length {length}")?;
-        Ok(())
+    pub(crate) fn write(&mut self, buffer: Buffer, line: &mut Line<'_>) -> Result<(), AllocError> {
+        let length = buffer.len();
+        line.say(format_args!("buffer {} length {length}", buffer.name))?;
+        self.put(buffer)
     }
 }
 
-/// Makes a buffer hold the bytes of a word.
-pub(crate) fn bytes(
-    buffers: &mut Buffers,
-    heap: Global,
-    words: Words<'_>,
-    out: &mut String,
-) -> Result<(), Fault>
-    ensures { undone result ≡ true → buffers.new ≡ buffers.old }
-{
-    let [name, hex] = words else {
-        return Err(Fault::Usage);
-    };
-    let name = arguments::name(name)?;
-    let bytes = arguments::bytes(heap, hex)?;
-    buffers.write(heap, name, bytes, out)
-}
-
 /// The length of a buffer and its check, which is the hash of its bytes at seed 0.
-pub(crate) fn sum(buffers: &Buffers, words: Words<'_>, out: &mut String) -> Result<(), Fault> {
-    let [name] = words else {
-        return Err(Fault::Usage);
-    };
-    let name = arguments::name(name)?;
+pub(crate) fn sum(buffers: &Buffers, line: &mut Line<'_>) -> Result<(), Fault> {
+    let name = line.name()?;
     let bytes = buffers.get(name)?;
     let length = bytes.len();
     let check = murmur::hash(0, bytes);
-    writeln!(out, "buffer {name} length {length} check 0x{check:08X}")?;
+    line.say(format_args!("buffer {name} length {length} check 0x{check:08X}"))?;
     Ok(())
 }
 
 /// The same, and then the bytes themselves, 32 to a line.
-pub(crate) fn show(buffers: &Buffers, words: Words<'_>, out: &mut String) -> Result<(), Fault> {
-    sum(buffers, words, out)?;
-    let [name] = words else {
-        return Err(Fault::Usage);
-    };
-    for row in buffers.get(arguments::name(name)?)?.chunks(32) {
-        let row = Hex(row);
-        writeln!(out, "{row}")?;
+pub(crate) fn show(buffers: &Buffers, line: &mut Line<'_>) -> Result<(), Fault> {
+    let name = line.name()?;
+    sum(buffers, line)?;
+    for row in buffers.get(name)?.chunks(32) {
+        line.say(Hex(row))?;
     }
     Ok(())
 }

@@ -7,6 +7,9 @@ ghost use Rattle.desk.specs.Bytes.{flipped, shortened, resealed};
 use crate::faults::Fault;
 use std::alloc::AllocError;
 
+/// The tag of the field of a check.
+const CHECK: u8 = 0xFF;
+
 /// Replaces the byte at an offset by its exclusive or with another.
 pub(crate) fn flip(bytes: &mut [u8], offset: usize, byte: u8) -> Result<(), Fault>
     ensures { (result, bytes.new) ≡ flipped offset byte bytes.old }
@@ -39,14 +42,16 @@ pub(crate) fn add_field(bytes: &mut Vec<u8>, tag: u8, body: &[u8]) -> Result<(),
 }
 
 /// Adds the check of all bytes at the end.
+#[tactic(auto, unfolding(fields::specs::Reading::check_field))]
 pub(crate) fn add_check(bytes: &mut Vec<u8>) -> Result<(), AllocError>
     ensures { OnOk result (bytes.new.items ≡ checked bytes.old.items) }
 {
     let check = murmur::hash(0, bytes).to_be_bytes();
-    add_field(bytes, 0xFF, &check)
+    add_field(bytes, CHECK, &check)
 }
 
 /// Writes over the last four bytes the check of all bytes but the last seven.
+#[tactic(auto, unfolding(crate::specs::Bytes::with_check))]
 pub(crate) fn reseal(bytes: &mut [u8]) -> Result<(), Fault>
     ensures { (result, bytes.new) ≡ resealed bytes.old }
 {

@@ -3,31 +3,31 @@ ghost use Rattle.std.specs.Prelude.{◌≡◌, true, ◌∷◌, ◌++◌, IfOk};
 ghost use Rattle.passes.specs.Bytes.{be2};
 ghost use Rattle.desk.specs.Faults.{undone};
 
-use crate::arguments::Words;
-use crate::buffers::Buffers;
-use crate::draft::Draft;
+use crate::arguments;
+use crate::buffers::Buffer;
+use crate::draft::{Draft, More, row_field, span_words, word_field};
 use crate::faults::Fault;
-use crate::{arguments, draft};
-use levels::Side;
+use crate::line::{Line, Words};
+use crate::shown::in_sheet;
 use passes::identifier::Identifier;
+use passes::kind::PassKind;
 use std::alloc::{AllocError, Global};
 use std::fmt::Write;
 
-/// The byte of a side: 0 for good and 1 for blocked, or the number given.
+/// The byte of a side, or the number given.
 fn side_byte(word: &[u8]) -> Result<u8, Fault> {
     match arguments::side(word) {
-        Ok(Side::Against) => Ok(0),
-        Ok(Side::For) => Ok(1),
-        Err(_) => arguments::number8(word),
+        Ok(side) => Ok(in_sheet(side).into()),
+        Err(_) => arguments::number(word),
     }
 }
 
-/// The byte of a kind of pass: the first of its forms, or the number given.
+/// The byte of a kind of pass, or the number given.
 fn kind_byte(word: &[u8]) -> Result<u8, Fault> {
     match word {
-        b"tag" => Ok(0x54),
-        b"chip" => Ok(0x43),
-        _ => arguments::number8(word),
+        b"tag" => Ok(PassKind::Tag.into()),
+        b"chip" => Ok(PassKind::Chip.into()),
+        _ => arguments::number(word),
     }
 }
 
@@ -36,7 +36,7 @@ fn chip_form(heap: Global, issuer: u16, serial: &[u8]) -> Result<Vec<u8>, AllocE
     ensures { IfOk result (λ v. v.items ≡ 0x43 ∷ (be2 issuer ++ serial.now)) }
 {
     let i = issuer.to_be_bytes();
-    let mut form = vec![in heap; 0x43, i[0], i[1]]?;
+    let mut form = vec![in heap; PassKind::Chip as u8, i[0], i[1]]?;
     form.extend_from_slice(serial)?;
     Ok(form)
 }
@@ -46,7 +46,7 @@ fn form(heap: Global, words: Words<'_>) -> Result<Vec<u8>, Fault> {
     match words {
         [b"form", bytes] => arguments::bytes(heap, bytes),
         [b"chip", issuer, serial] => {
-            let issuer = arguments::number16(issuer)?;
+            let issuer = arguments::number(issuer)?;
             let serial = arguments::bytes(heap, serial)?;
             Ok(chip_form(heap, issuer, &serial)?)
         }
@@ -57,120 +57,91 @@ fn form(heap: Global, words: Words<'_>) -> Result<Vec<u8>, Fault> {
     }
 }
 
-/// Begins a sheet.
-pub(crate) fn begin(
-    held: &mut Option<Draft>,
-    heap: Global,
-    words: Words<'_>,
-    out: &mut String,
-) -> Result<(), Fault>
-    ensures { undone result ≡ true → held.new ≡ held.old }
-{
-    let (words, edition) = match words {
-        [front @ .., edition] if words.len() == 4 => (front, arguments::number8(edition)?),
-        _ => (words, 1),
+/// A sheet that is begun.
+pub(crate) fn begin(line: &mut Line<'_>) -> Result<Draft, Fault> {
+    let (words, edition) = match line.words {
+        [front @ .., edition] if front.len() == 3 => (front, arguments::number(edition)?),
+        words => (words, 1),
     };
     let [name, number, step] = words else {
         return Err(Fault::Usage);
     };
     let name = arguments::name(name)?;
-    let number = arguments::number32(number)?;
-    let step = arguments::number16(step)?;
-    *held = Some(Draft::new(heap, name, edition, number, step)?);
-    writeln!(out, "sheet of number {number} step {step}")?;
-    Ok(())
+    let number = arguments::number(number)?;
+    let step = arguments::number(step)?;
+    let draft = Draft::new(line.heap, name, edition, number, step)?;
+    line.say(format_args!("sheet of number {number} step {step}"))?;
+    Ok(draft)
 }
 
-/// Adds a word to the sheet.
-pub(crate) fn word(
-    draft: &mut Draft,
-    heap: Global,
-    words: Words<'_>,
-    out: &mut String,
-) -> Result<(), Fault>
-    ensures { undone result ≡ true → draft.new ≡ draft.old }
-{
-    let [side, form @ ..] = words else {
+/// A word for the sheet.
+pub(crate) fn word(line: &Line<'_>) -> Result<More, Fault> {
+    let [side, form @ ..] = line.words else {
         return Err(Fault::Usage);
     };
     let side = side_byte(side)?;
-    let form = self::form(heap, form)?;
-    add_words(draft, &draft::word(heap, side, &form)?, 1, out)
+    let form = self::form(line.heap, form)?;
+    Ok(More::Words(word_field(line.heap, side, &form)?, 1))
 }
 
-/// Adds a word for each pass of a span, or none.
-pub(crate) fn words(
-    draft: &mut Draft,
-    heap: Global,
-    words: Words<'_>,
-    out: &mut String,
-) -> Result<(), Fault>
-    ensures { undone result ≡ true → draft.new ≡ draft.old }
-{
-    let [side, span @ ..] = words else {
+/// A word for each pass of a span.
+pub(crate) fn words(line: &Line<'_>) -> Result<More, Fault> {
+    let [side, span @ ..] = line.words else {
         return Err(Fault::Usage);
     };
     let side = side_byte(side)?;
     let span = arguments::span(span)?;
-    let fields = draft::span_words(heap, side, &span)?;
-    add_words(draft, &fields, u64::from(span.count()), out)
+    let fields = span_words(line.heap, side, &span)?;
+    Ok(More::Words(fields, u64::from(span.count())))
 }
 
-/// Adds the fields of so many words, and says how many words there are.
-fn add_words(draft: &mut Draft, fields: &[u8], count: u64, out: &mut String) -> Result<(), Fault>
-    ensures { undone result ≡ true → draft.new ≡ draft.old }
-{
-    draft.add_words(fields, count)?;
-    let count = draft.words;
-    writeln!(out, "word {count}")?;
-    Ok(())
-}
-
-/// Adds a coverage row to the sheet.
-pub(crate) fn row(
-    draft: &mut Draft,
-    heap: Global,
-    words: Words<'_>,
-    out: &mut String,
-) -> Result<(), Fault>
-    ensures { undone result ≡ true → draft.new ≡ draft.old }
-{
-    let [kind, issuer, first, last] = words else {
+/// A coverage row for the sheet.
+pub(crate) fn row(line: &Line<'_>) -> Result<More, Fault> {
+    let [kind, issuer, first, last] = line.words else {
         return Err(Fault::Usage);
     };
     let kind = kind_byte(kind)?;
-    let issuer = arguments::number16(issuer)?;
-    let first = arguments::number16(first)?;
-    let last = arguments::number16(last)?;
-    draft.add_row(&draft::row(heap, kind, issuer, first, last)?)?;
-    let count = draft.rows;
-    writeln!(out, "row {count}")?;
+    let issuer = arguments::number(issuer)?;
+    let first = arguments::number(first)?;
+    let last = arguments::number(last)?;
+    Ok(More::Row(row_field(line.heap, kind, issuer, first, last)?))
+}
+
+/// Adds to the sheet, all or nothing, and says how many words or rows there are.
+pub(crate) fn add(draft: &mut Draft, more: More, line: &mut Line<'_>) -> Result<(), Fault>
+    ensures { undone result ≡ true → draft.new ≡ draft.old }
+{
+    match more {
+        More::Words(fields, count) => {
+            draft.add_words(&fields, count)?;
+            line.say(format_args!("word {}", draft.words))?;
+        }
+        More::Row(field) => {
+            draft.add_row(&field)?;
+            line.say(format_args!("row {}", draft.rows))?;
+        }
+    }
     Ok(())
 }
 
-/// Writes the sheet with its check into its buffer.
-pub(crate) fn end(
-    draft: &Draft,
-    buffers: &mut Buffers,
-    heap: Global,
-    words: Words<'_>,
-    out: &mut String,
-) -> Result<(), Fault>
-    ensures { undone result ≡ true → buffers.new ≡ buffers.old }
-{
-    if !words.is_empty() {
+/// The sheet with its check, as its buffer is to hold it.
+pub(crate) fn end(draft: &Draft, line: &mut Line<'_>) -> Result<Buffer, Fault> {
+    if !line.words.is_empty() {
         return Err(Fault::Usage);
     }
-    let name = draft.name.as_str();
-    let sheet = draft.sheet(heap)?;
+    let Draft {
+        name,
+        words,
+        rows,
+        ..
+    } = draft;
+    let sheet = Buffer::new(line.heap, name, draft.sheet(line.heap)?)?;
     let length = sheet.len();
-    buffers.put(heap, name, sheet)?;
-    let words = draft.words;
-    let rows = draft.rows;
+    let out = &mut line.answer;
     write!(out, "written {name} length {length} words {words}")?;
-    if rows > 0 {
+    if *rows > 0 {
         write!(out, " rows {rows}")?;
     }
     writeln!(out)?;
-    Ok(())
+    Ok(sheet)
 }

@@ -3,19 +3,19 @@ ghost use Rattle.desk.specs.Faults.{undone, foreseen};
 ghost use Rattle.desk.specs.Held.{Fresh, Same};
 
 use crate::any_levels::Levels;
-use crate::arguments::Words;
-use crate::buffers::Buffers;
-use crate::commands::{Command, Part};
+use crate::buffers::{Buffer, Buffers};
+use crate::commands::{BufferCommand, COMMANDS, Command, PARTS, Part, Question, named};
 use crate::draft::Draft;
 use crate::faults::Fault;
 use crate::kinds::AnyFilter;
+use crate::line::{Line, Words};
 use crate::plans::Plan;
 use crate::register::Register;
-use crate::shown::write_refusal;
-use crate::{altering, chips, composing, filtering, hashing, leveling, registering};
+use crate::{
+    altering, buffers, chips, composing, contents, filtering, hashing, leveling, registering,
+};
 use passes::chip::ChipPass;
 use std::alloc::{AllocError, Global};
-use std::fmt::{Display, Write};
 
 /// What commands work on.
 #[derive(Drop)]
@@ -30,40 +30,35 @@ pub struct Desk {
     draft: Option<Draft>,
 }
 
-/// Writes an error of a line.
-fn error(line: u64, text: impl Display + Drop, out: &mut String) -> Result<(), AllocError> {
-    writeln!(out, "error {line}: {text}")
-}
-
 /// Says why the command of a line, which has this form, was not done.
-fn complain(line: u64, form: &str, fault: Fault, out: &mut String) -> Result<(), AllocError>
+fn complain(line: &mut Line<'_>, form: &str, fault: Fault) -> Result<(), AllocError>
     ensures { is_ok result ≡ true → foreseen fault ≡ true }
 {
     match fault {
-        Fault::Memory => Err(AllocError),
-        Fault::Usage => error(line, format_args!("usage: {form}"), out),
-        Fault::NumberTooLarge => error(line, "number too large", out),
-        Fault::NoSuchBuffer => error(line, "no such buffer", out),
-        Fault::BufferTooLong => error(line, "buffer too long", out),
-        Fault::NoFilter => error(line, "no filter", out),
-        Fault::RegisterMixed => error(line, "register would be mixed", out),
-        Fault::RegisterFull => error(line, "register full", out),
-        Fault::PastTheEnd => error(line, "past the end", out),
-        Fault::NoPlan => error(line, "no plan", out),
-        Fault::NoSuchMake => error(line, "no such make", out),
-        Fault::NoLevels => error(line, "no levels", out),
-        Fault::Refused(refusal) => write_refusal(refusal, out),
+        Fault::Memory(error) => Err(error),
+        Fault::Usage => line.error(format_args!("usage: {form}")),
+        Fault::NumberTooLarge => line.error("number too large"),
+        Fault::NoSuchBuffer => line.error("no such buffer"),
+        Fault::BufferTooLong => line.error("buffer too long"),
+        Fault::NoFilter => line.error("no filter"),
+        Fault::RegisterMixed => line.error("register would be mixed"),
+        Fault::RegisterFull => line.error("register full"),
+        Fault::PastTheEnd => line.error("past the end"),
+        Fault::NoPlan => line.error("no plan"),
+        Fault::NoSuchMake => line.error("no such make"),
+        Fault::NoLevels => line.error("no levels"),
+        Fault::Refused(refusal) => line.say(refusal),
     }
 }
 
 /// Whether the command of a line was done; if not, says why.
-fn told(line: u64, form: &str, res: Result<(), Fault>, out: &mut String) -> Result<bool, AllocError>
+fn told(line: &mut Line<'_>, form: &str, res: Result<(), Fault>) -> Result<bool, AllocError>
     ensures { IfOk result (λ done. done ≡ false → undone res ≡ true) }
 {
     match res {
         Ok(()) => Ok(true),
         Err(fault) => {
-            complain(line, form, fault, out)?;
+            complain(line, form, fault)?;
             Ok(false)
         }
     }
@@ -98,53 +93,46 @@ impl Desk {
         ensures kept { IfOk result (λ done. done ≡ false → Same self.new self.old) }
         ensures more { OnOk result ((added : List ℕ) × (string_bytes out.new ≡ string_bytes out.old ++ added)) }
     {
-        let mut answer = String::new(self.heap);
-        let done = self.attempt(first, rest, line, &mut answer)?;
-        out.push_str(answer.as_str())?;
+        let mut line = Line::new(self.heap, line, rest);
+        let done = self.attempt(first, &mut line)?;
+        out.push_str(line.answer.as_str())?;
         Ok(done)
     }
 
     /// Does the command that a word names, writes the answer, and says whether it was done.
-    fn attempt(
-        &mut self,
-        first: &[u8],
-        rest: Words<'_>,
-        line: u64,
-        out: &mut String,
-    ) -> Result<bool, AllocError>
+    fn attempt(&mut self, first: &[u8], line: &mut Line<'_>) -> Result<bool, AllocError>
         ensures { IfOk result (λ done. done ≡ false → Same self.new self.old) }
     {
         if self.draft.is_some() {
-            let Some(part) = Part::named(first) else {
-                error(line, "only word, words, row or end here", out)?;
+            let Some((part, form)) = named(&PARTS, first) else {
+                line.error("only word, words, row or end here")?;
                 return Ok(false);
             };
-            let result = self.compose(part, rest, out);
-            told(line, part.usage(), result, out)
+            let result = self.compose(part, line);
+            told(line, form, result)
         } else {
-            let Some(command) = Command::named(first) else {
-                error(line, "unknown command", out)?;
+            let Some((command, form)) = named(&COMMANDS, first) else {
+                line.error("unknown command")?;
                 return Ok(false);
             };
-            let result = self.run(command, rest, out);
-            told(line, command.usage(), result, out)
+            let result = self.run(command, line);
+            told(line, form, result)
         }
     }
 
     /// Does a command on the sheet that was begun, of which there has to be one.
-    fn compose(&mut self, part: Part, words: Words<'_>, out: &mut String) -> Result<(), Fault>
+    fn compose(&mut self, part: Part, line: &mut Line<'_>) -> Result<(), Fault>
         ensures { undone result ≡ true → Same self.new self.old }
     {
-        let heap = self.heap;
         let Some(draft) = &mut self.draft else {
             return Err(Fault::Usage);
         };
         match part {
-            Part::Word => composing::word(draft, heap, words, out),
-            Part::Words => composing::words(draft, heap, words, out),
-            Part::Row => composing::row(draft, heap, words, out),
+            Part::Word => composing::add(draft, composing::word(line)?, line),
+            Part::Words => composing::add(draft, composing::words(line)?, line),
+            Part::Row => composing::add(draft, composing::row(line)?, line),
             Part::End => {
-                composing::end(draft, &mut self.buffers, heap, words, out)?;
+                self.buffers.put(composing::end(draft, line)?)?;
                 self.draft = None;
                 Ok(())
             }
@@ -152,41 +140,62 @@ impl Desk {
     }
 
     /// Does a command.
-    fn run(&mut self, command: Command, words: Words<'_>, out: &mut String) -> Result<(), Fault>
+    fn run(&mut self, command: Command, line: &mut Line<'_>) -> Result<(), Fault>
         ensures { undone result ≡ true → Same self.new self.old }
     {
-        let heap = self.heap;
         match command {
-            Command::Hash => hashing::hash(heap, words, out),
-            Command::Form => hashing::form(heap, words, out),
-            Command::Hashes => hashing::hashes(heap, words, out),
-            Command::Chip => chips::chip(&mut self.chip, heap, words, out),
+            Command::Ask(question) => self.ask(question, line)?,
             Command::Buffer(command) => {
-                altering::run(&mut self.buffers, command, heap, words, out)
+                let buffer = self.made(command, line)?;
+                self.buffers.write(buffer, line)?;
             }
-            Command::Filter => filtering::filter(&mut self.filter, heap, words, out),
-            Command::Put => filtering::put(&mut self.filter, heap, words, out),
-            Command::Puts => filtering::puts(&mut self.filter, words, out),
-            Command::Yes => filtering::yes(&self.filter, heap, words, out),
-            Command::Yeses => filtering::yeses(&self.filter, words, out),
-            Command::Save => filtering::save(&self.filter, &mut self.buffers, heap, words, out),
-            Command::Load => filtering::load(&mut self.filter, &self.buffers, words, out),
-            Command::Register => registering::register(&mut self.register, words, out),
-            Command::Pass => registering::pass(&mut self.register, heap, words, out),
-            Command::Passes => registering::passes(&mut self.register, words, out),
-            Command::Turn => registering::turn(&mut self.register, words, out),
-            Command::Plan => leveling::plan(&mut self.plan, words, out),
+            Command::Chip => self.chip = chips::chip(self.chip, line)?,
+            Command::Filter => self.filter = Some(filtering::filter(line)?),
+            Command::Put => filtering::put(&mut self.filter, line)?,
+            Command::Puts => filtering::puts(&mut self.filter, line)?,
+            Command::Load => filtering::load(&mut self.filter, &self.buffers, line)?,
+            Command::Register(command) => registering::run(&mut self.register, command, line)?,
+            Command::Plan => self.plan = Some(leveling::plan(line)?),
             Command::Build => {
-                let register = &self.register;
-                let plan = &self.plan;
-                leveling::build(&mut self.levels, register, plan, heap, words, out)
+                self.levels = Some(leveling::build(&self.register, &self.plan, line)?);
             }
-            Command::Decide => leveling::decide(&self.levels, heap, words, out),
-            Command::Keep => leveling::keep(&self.levels, &mut self.buffers, heap, words, out),
             Command::Reopen => {
-                leveling::reopen(&mut self.levels, &self.buffers, heap, words, out)
+                self.levels = Some(leveling::reopen(&self.levels, &self.buffers, line)?);
             }
-            Command::Sheetof => composing::begin(&mut self.draft, heap, words, out),
+            Command::Sheetof => self.draft = Some(composing::begin(line)?),
+        }
+        Ok(())
+    }
+
+    /// Answers a command that changes nothing.
+    fn ask(&self, question: Question, line: &mut Line<'_>) -> Result<(), Fault> {
+        match question {
+            Question::Hash => hashing::hash(line),
+            Question::Form => hashing::form(line),
+            Question::Hashes => hashing::hashes(line),
+            Question::Show => buffers::show(&self.buffers, line),
+            Question::Sum => buffers::sum(&self.buffers, line),
+            Question::Read => contents::read(&self.buffers, line),
+            Question::Yes => filtering::yes(&self.filter, line),
+            Question::Yeses => filtering::yeses(&self.filter, line),
+            Question::Decide => leveling::decide(&self.levels, line),
+        }
+    }
+
+    /// The buffer that a command makes or changes, as it is to be.
+    fn made(&self, command: BufferCommand, line: &Line<'_>) -> Result<Buffer, Fault> {
+        match command {
+            BufferCommand::Bytes => altering::bytes(line),
+            BufferCommand::Fill => altering::fill(line),
+            BufferCommand::Copy => altering::copy(&self.buffers, line),
+            BufferCommand::Flip => altering::flip(&self.buffers, line),
+            BufferCommand::Cut => altering::cut(&self.buffers, line),
+            BufferCommand::Append => altering::append(&self.buffers, line),
+            BufferCommand::Field => altering::field(&self.buffers, line),
+            BufferCommand::Check => altering::check(&self.buffers, line),
+            BufferCommand::Seal => altering::seal(&self.buffers, line),
+            BufferCommand::Save => filtering::save(&self.filter, line),
+            BufferCommand::Keep => leveling::keep(&self.levels, line),
         }
     }
 }

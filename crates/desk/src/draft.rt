@@ -12,6 +12,15 @@ use crate::span::Span;
 use passes::identifier::Identifier;
 use std::alloc::{AllocError, Global};
 
+/// The tag of the field of the head.
+const HEAD: u8 = 0x21;
+
+/// The tag of the field of a word.
+const WORD: u8 = 0x22;
+
+/// The tag of the field of a coverage row.
+const ROW: u8 = 0x23;
+
 /// The name of the buffer to be written, the fields so far, and how many words and rows are among them.
 #[derive(Drop)]
 pub struct Draft {
@@ -21,31 +30,42 @@ pub struct Draft {
     pub(crate) rows: u64,
 }
 
+/// What is to be added to a sheet.
+#[derive(Drop)]
+pub enum More {
+    /// the fields of so many words
+    Words(Vec<u8>, u64),
+    /// the field of a coverage row
+    Row(Vec<u8>),
+}
+
 /// The field of a word: the byte of its side, and a form.
-pub(crate) fn word(heap: Global, side: u8, form: &[u8]) -> Result<Vec<u8>, AllocError>
+pub(crate) fn word_field(heap: Global, side: u8, form: &[u8]) -> Result<Vec<u8>, AllocError>
     ensures { IfOk result (λ v. v.items ≡ word_field side form.now) }
 {
     let mut body = vec![in heap; side]?;
     body.extend_from_slice(form)?;
     let mut fields = Vec::new(heap);
-    add_field(&mut fields, 0x22, &body)?;
+    add_field(&mut fields, WORD, &body)?;
     Ok(fields)
 }
 
 /// The fields of a word for each pass of a span.
+#[tactic(auto, unfolding(crate::specs::Drafts::span_words))]
 pub(crate) fn span_words(heap: Global, side: u8, span: &Span) -> Result<Vec<u8>, AllocError>
     ensures { IfOk result (λ v. v.items ≡ span_words side span.now span.now.numbers.count) }
 {
     let mut fields = Vec::new(heap);
+    // by place: an iterator of the passes would be longer than the loops that it serves
     'passes: for i in 0..span.count() {
         let form = span.pass(i).written();
-        fields.extend_from_slice(&word(heap, side, form.as_bytes())?)?;
+        fields.extend_from_slice(&word_field(heap, side, form.as_bytes())?)?;
     }
     Ok(fields)
 }
 
 /// The field of a coverage row.
-pub(crate) fn row(
+pub(crate) fn row_field(
     heap: Global,
     kind: u8,
     issuer: u16,
@@ -60,7 +80,7 @@ pub(crate) fn row(
     let mut fields = Vec::new(heap);
     add_field(
         &mut fields,
-        0x23,
+        ROW,
         &[kind, i[0], i[1], f[0], f[1], l[0], l[1]],
     )?;
     Ok(fields)
@@ -82,7 +102,7 @@ impl Draft {
         let mut bytes = Vec::new(heap);
         add_field(
             &mut bytes,
-            0x21,
+            HEAD,
             &[edition, n[0], n[1], n[2], n[3], s[0], s[1]],
         )?;
         let name = String::from_str(heap, name)?;

@@ -3,13 +3,12 @@ ghost use Rattle.desk.specs.declared.faults.Fault.TheVariants.{Memory, Refused a
 
 use refusals::Refusal;
 use std::alloc::{AllocError, AllocFailed};
-use std::fmt;
 
 /// Why a command was not done.
 #[derive(Clone, Copy)]
 pub enum Fault {
     /// no memory is left
-    Memory,
+    Memory(AllocError),
     /// the line doesn't have the form of its command
     Usage,
     /// a number of the span would be above the largest
@@ -37,27 +36,18 @@ pub enum Fault {
 }
 
 impl From<AllocError> for Fault {
-    ghost from_gives = { λ _ r. r ≡ Memory };
+    ghost from_gives = { λ e r. r ≡ Memory e };
 
-    fn from(_e: AllocError) -> Fault {
-        Fault::Memory
+    fn from(e: AllocError) -> Fault {
+        Fault::Memory(e)
     }
 }
 
 impl<T: Drop> From<AllocFailed<T>> for Fault {
-    ghost from_gives = { λ _ r. r ≡ Memory };
+    ghost from_gives = { λ _ r. (e : _) × (r ≡ Memory e) };
 
-    fn from(_e: AllocFailed<T>) -> Fault {
-        Fault::Memory
-    }
-}
-
-/// Writing to a text fails only for want of memory.
-impl From<fmt::Error> for Fault {
-    ghost from_gives = { λ _ r. r ≡ Memory };
-
-    fn from(_e: fmt::Error) -> Fault {
-        Fault::Memory
+    fn from(e: AllocFailed<T>) -> Fault {
+        Fault::Memory(e.into())
     }
 }
 

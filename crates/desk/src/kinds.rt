@@ -1,16 +1,16 @@
 //! The kinds of filter, behind one type.
-ghost use Rattle.std.specs.Prelude.{◌≡◌, ◌≤◌, false, is_ok};
+ghost use Rattle.std.specs.Prelude.{◌≡◌, false, is_ok};
 ghost use Rattle.desk.specs.Filters.{any_view};
 
 use crate::faults::Fault;
 use crate::pass::Pass;
-use crate::span::Span;
 use bloom::table::Bloom;
 use cuckoo::table::Cuckoo;
 use exact::table::ExactList;
 use filters::{Filter, Settings};
 use refusals::Refusal;
 use std::alloc::Global;
+use std::fmt;
 
 /// The kind of a filter.
 #[derive(Clone, Copy)]
@@ -20,24 +20,26 @@ pub enum Kind {
     Exact,
 }
 
-impl Kind {
-    /// The kind that a word names.
-    pub(crate) fn named(word: &[u8]) -> Option<Kind> {
+impl TryFrom<&[u8]> for Kind {
+    type Error = Fault;
+
+    fn try_from(word: &[u8]) -> Result<Self, Fault> {
         match word {
-            b"bloom" => Some(Kind::Bloom),
-            b"cuckoo" => Some(Kind::Cuckoo),
-            b"exact" => Some(Kind::Exact),
-            _ => None,
+            b"bloom" => Ok(Kind::Bloom),
+            b"cuckoo" => Ok(Kind::Cuckoo),
+            b"exact" => Ok(Kind::Exact),
+            _ => Err(Fault::Usage),
         }
     }
+}
 
-    /// The word that names it.
-    pub(crate) fn word(self) -> &'static str {
-        match self {
+impl fmt::Display for Kind {
+    fn fmt<W: fmt::Write>(&self, f: &mut fmt::Formatter<W>) -> fmt::Result {
+        f.write_str(match self {
             Kind::Bloom => "bloom",
             Kind::Cuckoo => "cuckoo",
             Kind::Exact => "exact",
-        }
+        })
     }
 }
 
@@ -49,7 +51,7 @@ pub enum AnyFilter {
     Exact(Box<ExactList>),
 }
 
-/// Does the same with a filter of whichever kind.
+/// Does the same with a filter of whichever kind. The filter itself isn't given out as a `dyn Filter`: the interface is generic.
 macro_rules! whichever {
     ($any:expr, $filter:ident => $call:expr) => {
         match $any {
@@ -65,32 +67,6 @@ fn empty<F: Filter + Drop>(heap: Global, settings: Settings) -> Result<Box<F>, F
     let mut filter = F::blank();
     filter.clear(settings)?;
     Ok(Box::new(heap, filter)?)
-}
-
-/// Puts every pass of a span, and says how many were taken.
-fn put_all<F: Filter>(filter: &mut F, span: &Span) -> u16
-    ensures { result ≤ span.now.numbers.count }
-{
-    let mut taken = 0;
-    for i in 0..span.count() {
-        if filter.put(&span.pass(i)) {
-            taken += 1;
-        }
-    }
-    taken
-}
-
-/// How many passes of a span a filter says yes to.
-fn ask_all<F: Filter>(filter: &F, span: &Span) -> u16
-    ensures { result ≤ span.now.numbers.count }
-{
-    let mut yes = 0;
-    for i in 0..span.count() {
-        if filter.ask(&span.pass(i)) {
-            yes += 1;
-        }
-    }
-    yes
 }
 
 impl AnyFilter {
@@ -113,23 +89,9 @@ impl AnyFilter {
         whichever!(self, filter => filter.put(pass))
     }
 
-    /// Adds the passes of a span, and says how many were taken.
-    pub(crate) fn put_all(&mut self, span: &Span) -> u16
-        ensures { result ≤ span.now.numbers.count }
-    {
-        whichever!(self, filter => put_all(&mut **filter, span))
-    }
-
     /// Whether it says yes to a pass.
     pub(crate) fn ask(&self, pass: &Pass) -> bool {
         whichever!(self, filter => filter.ask(pass))
-    }
-
-    /// How many passes of a span it says yes to.
-    pub(crate) fn ask_all(&self, span: &Span) -> u16
-        ensures { result ≤ span.now.numbers.count }
-    {
-        whichever!(self, filter => ask_all(&**filter, span))
     }
 
     /// Writes its bytes to the front of the output and says how many; none if they don't fit.

@@ -17,11 +17,13 @@ mod filtering;
 mod hashing;
 mod kinds;
 mod leveling;
+mod line;
 mod numbers;
 mod pass;
 mod plans;
 mod register;
 mod registering;
+mod saving;
 mod shown;
 mod span;
 

@@ -18,6 +18,7 @@ impl Numbers {
     }
 
     /// The number at a place, from 0.
+    #[tactic(auto, using(crate::proofs::Reach::reach))]
     pub(crate) fn at(&self, i: u16) -> u64
         requires { i < self.now.count }
         ensures { result ≡ self.now.first + self.now.step * i }

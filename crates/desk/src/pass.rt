@@ -3,6 +3,7 @@ ghost use Rattle.desk.specs.Passes.{pass_form, pass_lawful};
 use passes::chip::ChipPass;
 use passes::form::Form;
 use passes::identifier::Identifier;
+use passes::kind::PassKind;
 use passes::tag::Tag;
 
 /// A pass of either kind, as a line names it.
@@ -13,9 +14,12 @@ pub enum Pass {
 }
 
 impl Pass {
-    /// Whether it is a tag.
-    pub(crate) fn is_tag(&self) -> bool {
-        matches!(self, Pass::Tag(_))
+    /// Its kind.
+    pub(crate) fn kind(&self) -> PassKind {
+        match self {
+            Pass::Tag(_) => PassKind::Tag,
+            Pass::Chip(_) => PassKind::Chip,
+        }
     }
 }
 

@@ -5,6 +5,7 @@ use filters::Hashing;
 /// How a register is to be built; it is not judged before the build.
 #[derive(Clone, Copy)]
 pub struct Plan {
+    // any number: the build says whether there is such a make
     pub(crate) make: u8,
     pub(crate) hashes: u8,
     pub(crate) sizes: [usize; 6],

@@ -1,12 +1,13 @@
 //! The register: passes with their sides.
 ghost use Rattle.std.specs.Prelude.{◌≡◌, ◌+◌, ◌-◌, ◌*◌, ◌<◌, true, [], ◌∷◌, ◌++◌, length, OnOk};
 ghost use Rattle.desk.specs.Faults.{undone};
-ghost use Rattle.desk.specs.Registers.{side_at, other_side, entries, turned_at, turned};
+ghost use Rattle.desk.specs.Registers.{side_at, entries, turned_at, turned};
 
 use crate::faults::Fault;
 use crate::pass::Pass;
 use crate::span::Span;
 use levels::{Entry, Side};
+use passes::kind::PassKind;
 use std::alloc::Global;
 
 /// How many passes a register has at most.
@@ -39,33 +40,22 @@ impl Sides {
     }
 }
 
-/// The other side.
-fn other(side: Side) -> Side
-    ensures { result ≡ other_side side }
-{
-    match side {
-        Side::For => Side::Against,
-        Side::Against => Side::For,
-    }
-}
-
 /// Turns the side of the entry at a place.
+#[tactic(auto, using(crate::proofs::Turned::set_turns), unfolding(crate::specs::Registers::turned_at))]
 fn turn_at(list: &mut [Entry<Pass>], at: usize)
     requires { at < length list.old }
     ensures { list.new ≡ turned_at at list.old }
 {
-    let Entry { id, side } = list[at];
-    list[at] = Entry {
-        id,
-        side: other(side),
-    };
+    list[at].side = !list[at].side;
 }
 
 /// Turns the sides of so many entries at equal distances, one after the other.
+#[tactic(auto, using(crate::proofs::Reach::reach), unfolding(crate::specs::Registers::turned))]
 fn turn_all(list: &mut [Entry<Pass>], index: usize, step: usize, count: u16)
     requires { index + step * (count - 1) < length list.old }
     ensures { list.new ≡ turned index step count list.old }
 {
+    // by index, since a step may be 0
     'turns: for i in 0..count {
         turn_at(list, index + step * i as usize);
     }
@@ -101,12 +91,11 @@ impl Register {
         self.list.clear();
     }
 
-    /// Whether so many more passes may be entered, tags or chip passes.
-    fn admit(&self, tags: bool, more: usize) -> Result<(), Fault> {
-        if let Some(first) = self.list.as_slice().first() {
-            if first.id.is_tag() != tags {
-                return Err(Fault::RegisterMixed);
-            }
+    /// Whether so many more passes of a kind may be entered.
+    fn admit(&self, kind: PassKind, more: usize) -> Result<(), Fault> {
+        let first = self.list.as_slice().first();
+        if first.is_some_and(|first| first.id.kind() != kind) {
+            return Err(Fault::RegisterMixed);
         }
         if more > MOST.saturating_sub(self.list.len()) {
             return Err(Fault::RegisterFull);
@@ -119,17 +108,19 @@ impl Register {
         ensures added { OnOk result (self.new.list.items ≡ self.old.list.items ++ record { id = id; side = side } ∷ []) }
         ensures kept { undone result ≡ true → self.new ≡ self.old }
     {
-        self.admit(id.is_tag(), 1)?;
+        self.admit(id.kind(), 1)?;
         self.list.push(Entry { id, side })?;
         Ok(())
     }
 
     /// All passes of a span more at the end.
+    #[tactic(auto, unfolding(crate::specs::Registers::entries))]
     pub(crate) fn add_all(&mut self, span: &Span, sides: Sides) -> Result<(), Fault>
         ensures added { OnOk result (self.new.list.items ≡ self.old.list.items ++ entries sides span.now span.now.numbers.count) }
         ensures kept { undone result ≡ true → self.new ≡ self.old }
     {
-        self.admit(span.is_of_tags(), span.count() as usize)?;
+        self.admit(span.kind(), span.count() as usize)?;
+        // by place, since the side goes by place too
         'passes: for i in 0..span.count() {
             let id = span.pass(i);
             let side = sides.at(i);

@@ -1,7 +1,5 @@
-use refusals::Refusal;
-use std::alloc::AllocError;
+use levels::Side;
 use std::fmt;
-use std::fmt::Write;
 
 /// Bytes, to be written in capital hexadecimal digits.
 #[derive(Clone, Copy)]
@@ -16,10 +14,10 @@ impl<'a> fmt::Display for Hex<'a> {
     }
 }
 
-/// The answer of what does not accept something.
-pub(crate) fn write_refusal(refusal: Refusal, out: &mut String) -> Result<(), AllocError> {
-    let number = refusal.reason.number();
-    let tag = refusal.tag;
-    let place = refusal.place;
-    writeln!(out, "refused {number} tag {tag} place {place}")
+/// What a sheet says of a pass of this side: blocked is for, good is against.
+pub(crate) fn in_sheet(side: Side) -> sheets::Side {
+    match side {
+        Side::For => sheets::Side::Blocked,
+        Side::Against => sheets::Side::Good,
+    }
 }

@@ -1,9 +1,10 @@
-ghost use Rattle.std.specs.Prelude.{◌≡◌, ◌<◌};
+ghost use Rattle.std.specs.Prelude.{◌≡◌, ◌<◌, ◌≤◌};
 ghost use Rattle.desk.specs.Spans.{numbered, pass_at};
 
 use crate::numbers::Numbers;
 use crate::pass::Pass;
 use passes::chip::ChipPass;
+use passes::kind::PassKind;
 use passes::tag::Tag;
 
 /// What the numbers of a span are: the numbers of tags, or serials of a length.
@@ -50,9 +51,12 @@ impl Span {
         self.numbers.count
     }
 
-    /// Whether its passes are tags.
-    pub(crate) fn is_of_tags(&self) -> bool {
-        matches!(self.kind, SpanKind::Tags)
+    /// The kind of its passes.
+    pub(crate) fn kind(&self) -> PassKind {
+        match self.kind {
+            SpanKind::Tags => PassKind::Tag,
+            SpanKind::Chips(_) => PassKind::Chip,
+        }
     }
 
     /// The pass at a place, from 0.
@@ -68,5 +72,19 @@ impl Span {
             }),
             SpanKind::Chips(length) => Pass::Chip(chip_pass(self.issuer, length, number)),
         }
+    }
+    /// Tries each of its passes in turn, and says with how many it went well.
+    pub(crate) fn how_many<F: FnMut(&Pass) -> bool>(&self, mut test: F) -> u16
+        requires { F.IsAlwaysCallable test }
+        ensures { result ≤ self.now.numbers.count }
+    {
+        let mut well = 0;
+        // by place: an iterator of the passes would be longer than the loops that it serves
+        for i in 0..self.count() {
+            if test(&self.pass(i)) {
+                well += 1;
+            }
+        }
+        well
     }
 }

@@ -24,11 +24,13 @@ fn pair(high: u8, low: u8) -> Option<u8>
 }
 
 /// The bytes that a row of digits writes, two digits for each.
+#[tactic(auto, unfolding(crate::specs::Hex::pairs_of))]
 fn pairs(heap: Global, digits: &[u8]) -> Result<Option<Vec<u8>>, AllocError>
     ensures { IfOk result (λ o. option_map vec_items o ≡ pairs_of digits.now) }
 {
     let mut all = Vec::new(heap);
     let mut left = digits;
+    // a loop: of a `try_collect` it isn't known that it gives none where one pair is none
     while let [high, low, rest @ ..] = left {
         let Some(byte) = pair(*high, *low) else {
             return Ok(None);

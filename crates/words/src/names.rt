@@ -13,15 +13,11 @@ fn is_letter(byte: u8) -> bool
 fn all_letters(word: &[u8]) -> bool
     ensures { result ≡ lettered word.now }
 {
-    for byte in word {
-        if !is_letter(*byte) {
-            return false;
-        }
-    }
-    true
+    word.iter().all(|byte| is_letter(*byte))
 }
 
 /// The name that a word is: 1 to 16 letters, digits or underscores.
+#[tactic(auto, using(crate::proofs::Steps::name_utf8))]
 pub fn name(word: &[u8]) -> Option<&str>
     ensures { option_map (λ s. s.now) result ≡ (if is_name word.now then Some word.now else None) }
 {

@@ -2,11 +2,13 @@ ghost use Rattle.std.specs.Prelude.{◌≡◌, ◌^◌, ◌<◌, ◌≤◌, leng
 ghost use Rattle.words.specs.Numbers.{number_of, reads, Within};
 
 /// The number that decimal digits write; none if another byte stands among them.
+#[tactic(auto, using(crate::proofs::Steps::ten_more), unfolding(crate::specs::Numbers::reads))]
 fn value(digits: &[u8]) -> Option<u128>
     requires { length digits.now ≤ 20 }
     ensures { result ≡ reads 0 digits.now }
 {
     let mut value: u128 = 0;
+    // a loop and no `try_fold`: its invariant bounds the value, so that no step wraps
     for byte in digits {
         if !byte.is_ascii_digit() {
             return None;

@@ -1,6 +1,7 @@
-use Rattle.std.proofs.Common.{◌≡◌, ℕ, Bool, true, false, cond, leb, List, ◌++◌, length, take, drop, Some, None, vec_len, Option, ap, ◌∙◌, arith}
+use Rattle.std.proofs.Common.{◌≡◌, ℕ, Bool, true, false, cond, leb, List, ◌++◌, length, take, drop, Some, None, Option, sym, ap, ◌∙◌, arith}
 use Rattle.std.proofs.lemmas.List.{take_at}
-use Rattle.desk.proofs.any_levels.saved.Goals as goal
+use Rattle.std.proofs.lemmas.Result.{IfOk-weaker}
+use Rattle.desk.proofs.any_levels.fields.Goals as goal
 
 -- the bytes in front of an output, if they were written there
 front : (b : Bool) (bs rest old new : List ℕ) (o : Option ℕ) (n : ℕ) → ◌≡◌ {A = Option ℕ × List ℕ} (o, new) (cond b (Some (length bs), bs ++ rest) (None, old)) → o ≡ Some n → take n new ≡ bs
@@ -16,13 +17,9 @@ front false bs rest old new o n e s =
 
 pub returns : goal.returns
 returns g c =
-    let v = c.in_ok-bytes.bytes in
     let bs : List ℕ = g.D.Decider.decider.saved 1 (g.D.Decider.state c.args.levels.now) in
-    let old = c.deref_mut.result.now in
-    let new = c.save.new.out in
-    let n = c.in-Some.length in
-    let long : length new ≡ vec_len v = c.save.auto.out ∙ c.deref_mut.ensures.len in
-    let some : c.save.result ≡ Some n = c.in-Some.is in
-    c.truncate.ensures.items
-    ∙ ap (take n) (take_at new (drop (length new) v.items) (vec_len v) long)
-    ∙ front (leb (length bs) (length old)) bs (drop (length bs) old) old new c.save.result n c.save.ensures some
+    IfOk-weaker c.saved.result _ _
+    (λ v s.
+    let old = s.wrote.shown.now in
+    s.front ∙ ap (take s.many) (sym s.wrote.leaves) ∙ front (leb (length bs) (length old)) bs (drop (length bs) old) old s.wrote.left.now s.said s.many s.wrote.met s.so)
+    c.saved.ensures
