@@ -101,13 +101,14 @@ pub record Ranges (size hashes : ℕ) : Type 0 where
   pub some : 1 ≤ size
   pub most : size ≤ 2048
   pub one : 1 ≤ hashes
+  pub counted : hashes_allowed hashes ≡ true
 
 pub ranges : (size hashes : ℕ) → bloom_allows size hashes ≡ true → Ranges size hashes
 ranges size hashes e =
     let p = and_parts (bloom_measures size) (hashes_allowed hashes) e in
     let q = and_parts (nat_le 1 size) (nat_le size 2048) p.0 in
     let r = and_parts (nat_le 1 hashes) (nat_le hashes 8) p.1 in
-    record { some = leb-true 1 size q.0; most = leb-true size 2048 q.1; one = leb-true 1 hashes r.0 }
+    record { some = leb-true 1 size q.0; most = leb-true size 2048 q.1; one = leb-true 1 hashes r.0; counted = p.1 }
 
 -- a view with a hash pair's positions set
 module _ (v : BloomView) (h : HashPair) (w : Whole bloom_scheme v) where

@@ -8,7 +8,6 @@ use Rattle.passes.specs.Bytes.{bytes}
 use Rattle.passes.specs.declared.identifier.HashPair.{HashPair}
 use Rattle.filters.specs.declared.Settings.{Settings}
 use Rattle.filters.specs.Kind.{Rules, hashes_allowed}
-use Rattle.filters.specs.Tables.{zeroed}
 use Rattle.filters.specs.TableRules.{slice_index-zeros, Keeps, table_rules, table_sound}
 use Rattle.cuckoo.specs.Cells.{spread, partner, holds, fingerprint}
 use Rattle.cuckoo.specs.Powers.{power_of_two, powers}
@@ -32,6 +31,7 @@ pub record Ranges (size hashes : ℕ) : Type 0 where
   pub most : size ≤ 2048
   pub whole : size ≡ 4 * (size / 4)
   pub two : (e : ℕ) × (size / 4 ≡ 2 ^ e)
+  pub counted : hashes_allowed hashes ≡ true
 
 quarter : (size k : ℕ) → 4 ≤ size → size ≡ 2 ^ k → (size ≡ 4 * (size / 4)) × ((e : ℕ) × (size / 4 ≡ 2 ^ e))
 quarter size zero l e = absurd (omega arith)
@@ -50,11 +50,11 @@ ranges size hashes e =
     let l = leb-true 4 size q.0 in
     let t = (powers size).0 r.1 in
     let u = quarter size t.0 l t.1 in
-    record { some = l; most = leb-true size 2048 r.0; whole = u.0; two = u.1 }
+    record { some = l; most = leb-true size 2048 r.0; whole = u.0; two = u.1; counted = p.1 }
 
 -- the buckets and fingerprints of a sound view
 module _ (s : Settings) (ok : cuckoo_allows s.size s.hashing.hashes ≡ true) where
-  print_some : (h : HashPair) → fingerprint h.h2 ≢ 0
+  pub print_some : (h : HashPair) → fingerprint h.h2 ≢ 0
   print_some h e = omega arith
 
   pub home_low : (h : HashPair) → bucket_of s h < buckets s
@@ -88,13 +88,13 @@ none_held : (n c k f : ℕ) → (f ≢ 0) → holds (replicate n 0) c k f ≡ fa
 none_held n c zero f h = refl
 none_held n c (suc k) f h = or_from (slice_index (replicate n 0) c == f) (holds (replicate n 0) (c + 1) k f) (ne_eqb (slice_index (replicate n 0) c) f (λ e. h (sym e ∙ slice_index-zeros n c))) (none_held n (c + 1) k f h)
 
-none_there : (s : Settings) (h : HashPair) → says_pair (zeroed s) h ≡ false
-none_there s h =
+none_there : (s : Settings) (n : ℕ) (h : HashPair) → says_pair (record { settings = s; table = replicate n 0 }) h ≡ false
+none_there s n h =
     let f = fingerprint h.h2 in
     let i = bucket_of s h in
     let j = partner (buckets s) i f in
     let some : f ≢ 0 = λ e. omega arith in
-    or_from (holds (replicate s.size 0) (4 * i) 4 f) (holds (replicate s.size 0) (4 * j) 4 f) (none_held s.size (4 * i) 4 f some) (none_held s.size (4 * j) 4 f some)
+    or_from (holds (replicate n 0) (4 * i) 4 f) (holds (replicate n 0) (4 * j) 4 f) (none_held n (4 * i) 4 f some) (none_held n (4 * j) 4 f some)
 
 pub first_allowed : cuckoo_allows 4 1 ≡ true
 first_allowed = and_from (cuckoo_measures 4) (hashes_allowed 1) ((powers 4).1 (2, refl)) refl
@@ -103,7 +103,7 @@ pub cuckoo_keeps : Keeps cuckoo_scheme
 cuckoo_keeps = record {
   within = λ size e. leb-true size 2048 (and_parts (nat_le size 2048) (power_of_two size) (and_parts (nat_le 4 size) (nat_le size 2048 && power_of_two size) e).1).0;
   first = (powers 4).1 (2, refl);
-  none = λ s h e. none_there s h;
+  none = λ s h e. none_there s s.size h;
   sized = λ v h u w e. put_sized v.settings w.allowed v.table u h w.long w.real e;
   has = λ v h u w e. put_has v.settings w.allowed v.table u h w.long e;
   still = λ v h g u w e s. put_still v.settings w.allowed v.table u h g w.long e s;
