@@ -92,6 +92,7 @@ impl Filter for Bloom {
         Ok(())
     }
 
+    // From here to `take_over` the table serves: an impl for all filters over a table would overlap that of the exact list.
     fn settings(&self) -> Settings {
         self.table.settings
     }

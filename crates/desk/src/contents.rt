@@ -58,6 +58,7 @@ fn sheet(bytes: &[u8], line: &mut Line<'_>) -> Result<(), Fault> {
     let words = judged.words;
     line.say(format_args!("sheet number {number} step {step} words {words}"))?;
     let mut reader = SheetReader::new(bytes);
+    // A count ends the loop: what the reader's contract says of the end would need a measure of its own.
     for _ in 0..words.saturating_add(1) {
         if let SheetField::Word(word) = reader.next()? {
             show_word(word, line)?;

@@ -30,7 +30,7 @@ pub struct Desk {
     draft: Option<Draft>,
 }
 
-/// Says why the command of a line, which has this form, was not done.
+/// Says why the command of a line, which has this form, was not done. No `Display` of a fault: the text of one needs the form.
 fn complain(line: &mut Line<'_>, form: &str, fault: Fault) -> Result<(), AllocError>
     ensures { is_ok result ≡ true → foreseen fault ≡ true }
 {
@@ -139,7 +139,7 @@ impl Desk {
         }
     }
 
-    /// Does a command.
+    /// Does a command. A match says which: a table of functions would hand out function pointers.
     fn run(&mut self, command: Command, line: &mut Line<'_>) -> Result<(), Fault>
         ensures { undone result ≡ true → Same self.new self.old }
     {

@@ -10,13 +10,8 @@ use crate::bytes::{add_check, add_field};
 use crate::faults::Fault;
 use crate::span::Span;
 use passes::identifier::Identifier;
+use sheets::{HEAD, WORD};
 use std::alloc::{AllocError, Global};
-
-/// The tag of the field of the head.
-const HEAD: u8 = 0x21;
-
-/// The tag of the field of a word.
-const WORD: u8 = 0x22;
 
 /// The tag of the field of a coverage row.
 const ROW: u8 = 0x23;

@@ -104,6 +104,7 @@ impl Register {
     }
 
     /// One pass more at the end.
+    // That what is refused changes nothing joins a value before and after, here as elsewhere: an invariant sees one of them.
     pub(crate) fn add(&mut self, id: Pass, side: Side) -> Result<(), Fault>
         ensures added { OnOk result (self.new.list.items ≡ self.old.list.items ++ record { id = id; side = side } ∷ []) }
         ensures kept { undone result ≡ true → self.new ≡ self.old }

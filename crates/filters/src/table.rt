@@ -8,7 +8,7 @@ use crate::{Hashing, Settings};
 /// The most bytes that a table has.
 pub const MOST_BYTES: usize = 2048;
 
-/// A table of bytes of which the front is in use, as much as the settings say.
+/// A table of bytes of which the front is in use, as much as the settings say; so it stands in place, since a gate has no heap.
 // Its fields are public: a slice of an array beside a fact cannot be lent for writing, and no proof of that closes.
 #[derive(Drop)]
 pub struct Table {

@@ -29,7 +29,8 @@ pub trait Decider: Sized {
     fn ask<I: Identifier>(&self, id: &I) -> (Side, u8)
         ensures { (result.0, result.1) ≡ decider.decides (state self.now) (I.form id.now) };
 
-    /// Builds it from a register under its marks; `sizes` has a table size for each level.
+    /// Builds it from a register under its marks; `sizes` has a table size for each level. Each level hands on another `at` and other
+    /// `sizes`, so the two are no struct.
     fn build<I: Identifier>(
         &mut self,
         at: Hashing,

@@ -33,10 +33,7 @@ impl<F: Filter> Judge for Loadable<F> {
     }
 
     fn judge(hashes: u8, body: &[u8]) -> Result<(), Reason> {
-        match F::judge(hashes, body) {
-            Ok(()) => Ok(()),
-            Err(refusal) => Err(refusal.reason),
-        }
+        F::judge(hashes, body).map_err(|refusal| refusal.reason)
     }
 }
 
