@@ -1,5 +1,5 @@
 -- The lowest empty cell of a bucket, and one turn of the loop of kicks.
-use Rattle.std.proofs.Common.{◌≡◌, ℕ, zero, suc, ◌+◌, ◌-◌, ◌*◌, ◌%◌, ◌<◌, ◌≤◌, Bool, true, false, ◌||◌, eqb, List, length, get_or, set, take, drop, Some, None, Option, sym, refl, ap, ◌∙◌, ⊎_elim, length-take, arith}
+use Rattle.std.proofs.Common.{◌≡◌, ℕ, zero, suc, ◌+◌, ◌-◌, ◌*◌, ◌%◌, ◌<◌, ◌≤◌, Bool, true, false, ◌||◌, eqb, eq-eqb, ne_eqb, List, length, get_or, set, take, drop, Some, None, Option, sym, refl, ap, ◌∙◌, ⊎_elim, length-take, arith}
 use Rattle.std.specs.Option.{option_map}
 use Rattle.std.specs.List.{list_any, position, position_from, slice_range}
 use Rattle.std.proofs.Math.Seq.{drop-cons, take-set-lt}
@@ -50,6 +50,36 @@ into_lowest t c f o l e =
     ∙ ap (λ (k : ℕ). at k c) (sym w)
     ∙ ap place (sym (position_from-zero (λ cell. eqb cell 0) (slice_range t c (c + 4))) ∙ sym e)
 
+into_full : (t : List ℕ) (c k f : ℕ) → 0 < k → (get_or t c 0 ≡ 0 → ⊥) → put_into t c k f ≡ put_into t (c + 1) (k - 1) f
+unfolding put_into
+into_full t c zero f l e = absurd (omega arith)
+into_full t c (suc k) f l e =
+    let z : suc k - 1 ≡ k = omega arith in
+    rw (ne_eqb (get_or t c 0) 0 e, z)
+
+into_empty : (t : List ℕ) (c k f : ℕ) → 0 < k → get_or t c 0 ≡ 0 → put_into t c k f ≡ Some (set t c f)
+unfolding put_into
+into_empty t c zero f l e = absurd (omega arith)
+into_empty t c (suc k) f l e = rw (eq-eqb (get_or t c 0) 0 e)
+
+pub into_end : (t : List ℕ) (c f k : ℕ) → 4 ≤ k → put_into t c (4 - k) f ≡ None
+unfolding put_into
+into_end t c f k l = let z : 4 - k ≡ 0 = omega arith in rw z
+
+-- cell k of the bucket at c, in the front of a table
+module _ (size : ℕ) (table : List ℕ) (c k f : ℕ) (few : k < 4) (low : c + k < size) where
+  pub into_here : get_or table (c + k) 0 ≡ 0 → put_into (take size table) (c + k) (4 - k) f ≡ Some (take size (set table (c + k) f))
+  into_here e =
+      into_empty (take size table) (c + k) (4 - k) f (omega arith) (get_or-take size table (c + k) 0 low ∙ e)
+      ∙ ap Some (sym (take-set-lt size table (c + k) f low))
+
+  pub into_next : (get_or table (c + k) 0 ≡ 0 → ⊥) → put_into (take size table) (c + k) (4 - k) f ≡ put_into (take size table) (c + (k + 1)) (4 - (k + 1)) f
+  into_next e =
+      let a : c + k + 1 ≡ c + (k + 1) = omega arith in
+      let b : 4 - k - 1 ≡ 4 - (k + 1) = omega arith in
+      into_full (take size table) (c + k) (4 - k) f (omega arith) (λ z. e (sym (get_or-take size table (c + k) 0 low) ∙ z))
+      ∙ rw (a, b)
+
 -- kick n of a fingerprint f from bucket i on: g is kicked out, and goes to bucket j
 module _ (mate : ℕ → ℕ → ℕ) (n i f j g : ℕ) (t u : List ℕ) where
   pub record Kick : Type 0 where
@@ -94,8 +124,8 @@ module _ (s : Settings) (ok : cuckoo_allows s.size s.hashing.hashes ≡ true) (t
       let l = length-take (4 * i + 4 - 4 * i) (drop (4 * i) (take s.size table)) in
       omega arith
 
-  pub cell_kicked : (n : ℕ) → 4 * i + n % 4 < s.size
-  cell_kicked n = let r = ranges s.size s.hashing.hashes ok in omega arith
+  pub cell_of : (k : ℕ) → k < 4 → 4 * i + k < s.size
+  cell_of k few = let r = ranges s.size s.hashing.hashes ok in omega arith
 
 -- a kick in the front of a table
 pub kick_in_front : (mate : ℕ → ℕ → ℕ) (size n i f j g : ℕ) (table : List ℕ) → n < 64 → 4 * i + n % 4 < size → (j ≡ mate i (get_or table (4 * i + n % 4) 0)) × (g ≡ get_or table (4 * i + n % 4) 0) → Kick mate n i f j g (take size table) (take size (set table (4 * i + n % 4) f))

@@ -110,7 +110,8 @@ impl Cuckoo {
         ensures kept { self.new.table.settings ≡ self.old.table.settings }
     {
         let mut at = first;
-        for n in 0..MOST_KICKS {
+        let mut found = false;
+        'search: for n in 0..MOST_KICKS {
             let cell = BUCKET_SIZE * at.bucket + n % BUCKET_SIZE;
             let kicked = self.table.buffer[cell];
             self.table.buffer[cell] = at.fingerprint;
@@ -118,11 +119,17 @@ impl Cuckoo {
                 bucket: at.bucket,
                 fingerprint: kicked,
             });
-            if self.fill(at) {
-                return true;
+            // The lowest empty cell ends the search from within the walk over the bucket's cells.
+            for k in 0..BUCKET_SIZE {
+                let cell = BUCKET_SIZE * at.bucket + k;
+                if self.table.buffer[cell] == 0 {
+                    self.table.buffer[cell] = at.fingerprint;
+                    found = true;
+                    break 'search;
+                }
             }
         }
-        false
+        found
     }
 
     /// Puts a fingerprint, and says whether it was taken; one that isn't leaves every cell as it was.

@@ -1,22 +1,12 @@
 -- One salt tried after the other.
-use Rattle.std.proofs.Common.{◌≡◌, ℕ, zero, suc, ◌+◌, ◌-◌, ◌<◌, ◌≤◌, true, false, List, is_ok, Ok, Err, Result, MatchResult, sym, refl, ap, ◌∙◌, ⊎_elim, arith}
-use Rattle.std.proofs.lemmas.Bool.{cases_lt, true≢false}
+use Rattle.std.proofs.Common.{◌≡◌, ℕ, zero, suc, ◌+◌, ◌-◌, ◌<◌, ◌≤◌, List, Ok, Err, Result, sym, refl, ap, ◌∙◌, ⊎_elim, arith}
+use Rattle.std.proofs.lemmas.Bool.{cases_lt}
 use Rattle.refusals.specs.declared.Refusal.{Refusal}
 use Rattle.filters.specs.declared.Hashing.{Hashing}
 use Rattle.levels.specs.Rows.{Row}
 use Rattle.levels.specs.Deciders.{Decides}
 use Rattle.fields.proofs.Steps.{never}
 use Rattle.piles.specs.Tries.{at_salt, next_salt, tried, or_later, retried, salt_at, Outcome}
-
--- what a try came to, by the test of its result
-module _ (X : Type 0) (Y : Refusal → Type 0) where
-  pub try_ok : (r : Result (Unit {0}) Refusal) → MatchResult r (λ _. X) Y → true ≡ is_ok r → X
-  try_ok (Ok u) m e = m
-  try_ok (Err f) m e = absurd (true≢false e)
-
-  pub try_err : (r : Result (Unit {0}) Refusal) → MatchResult r (λ _. X) Y → false ≡ is_ok r → (f : Refusal) × Y f
-  try_err (Ok u) m e = absurd (true≢false (sym e))
-  try_err (Err f) m e = (f, m)
 
 module _ {S : Type 0} (d : Decides S) (h : Hashing) (sizes : List ℕ) (rs : List Row) where
   pub retried_ok : (n salt : ℕ) (s : S) → d.build (at_salt h salt) sizes rs ≡ Ok s → retried d h sizes rs n salt ≡ Ok (salt, s)

@@ -80,7 +80,7 @@ impl<D: Decider> Retry<D> {
         self.below.build(at, sizes, &mut register)
     }
 
-    /// Tries one salt after the other: seven times whatever comes, and what the eighth comes to counts.
+    /// Tries one salt after the other, until one succeeds or the eighth fails.
     fn try_salts<I: Identifier>(
         &mut self,
         at: Hashing,
@@ -94,17 +94,21 @@ impl<D: Decider> Retry<D> {
             (λ e. retried D.Decider.decider at sizes.now (listed I.Identifier.form list.now) 7 at.salt ≡ Err e) }
     {
         let mut salt = at.salt;
-        for _ in 0..7u8 {
-            if self
-                .try_salt(Hashing { salt, ..at }, sizes, list, marks)
-                .is_ok()
-            {
-                return Ok(salt);
+        let mut more: u8 = 7;
+        // The loop yields what the tries came to: a `for` has no value.
+        let outcome = loop {
+            match self.try_salt(Hashing { salt, ..at }, sizes, list, marks) {
+                Ok(()) => break Ok(salt),
+                Err(refusal) => {
+                    if more == 0 {
+                        break Err(refusal);
+                    }
+                }
             }
+            more -= 1;
             salt = salt.wrapping_add(1);
-        }
-        self.try_salt(Hashing { salt, ..at }, sizes, list, marks)?;
-        Ok(salt)
+        };
+        outcome
     }
 }
 
