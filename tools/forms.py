@@ -27,8 +27,9 @@ FAMILIES = [
     ("6a", "an array with a length beside it", r"\[u8; \d+\],|\[u8; \w+\],"),
     ("6b", "lists that go together", r"list: &\[Entry<I>\],|marks: &mut \[u8\],|marks: &\[u8\],"),
     ("6c", "bytes that are rows", r"rows: &\[u8\]|rows\.len\(\) / 7|coverage\.len\(\) / 7"),
-    ("7a", "a match that says which command runs", r"Command::\w+ => \w+::\w+\(|BufferCommand::\w+ => |Part::\w+ => \w+::"),
+    ("7a", "a command in the match that runs it", r"\b(Command|BufferCommand|RegisterCommand|Question|Part)::\w+(\(\w+\))? => [^\"]"),
     ("7b", "a value that says which make or kind runs", r"AnyLevels::\w+\(\w+\) => |AnyFilter::\w+\(\$filter\) => |[ABG]::judge\("),
+    ("7c", "a command's word or form, in a match", r"\b(Command|BufferCommand|RegisterCommand|Question|Part)::\w+(\(\w+\))? => \""),
 ]
 
 
@@ -57,7 +58,7 @@ def clauses(texts):
 
 
 def heads(texts):
-    """Parameters that travel together: each run of two or more typed parameters that stands in three functions or more."""
+    """Pairs of parameters: each run of two or more typed parameters that stands in three functions or more."""
     found = {}
     for name, text in texts:
         for m in re.finditer(r"fn (\w+)(<[^(]*>)?\(([^)]*)\)", text):

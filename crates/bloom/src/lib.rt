@@ -88,11 +88,11 @@ impl Filter for Bloom {
         (1..=MOST_BYTES).contains(&len)
     }
 
+    // From here to `take_over` the table serves, and any bytes do: an impl for all filters over a table would overlap that of the exact list.
     fn judge_content(_body: &[u8]) -> Result<(), Refusal> {
         Ok(())
     }
 
-    // From here to `take_over` the table serves: an impl for all filters over a table would overlap that of the exact list.
     fn settings(&self) -> Settings {
         self.table.settings
     }

@@ -14,7 +14,7 @@ pub(crate) const BUCKET_SIZE: usize = 4;
 /// How often fingerprints are kicked on before a put gives up.
 const MOST_KICKS: usize = 64;
 
-/// A fingerprint, and a bucket for it.
+/// A fingerprint, and a bucket for it. It doesn't know its table, so each call that is given one asks for a bucket of the table.
 #[derive(Clone, Copy)]
 pub(crate) struct Place {
     bucket: usize,

@@ -49,7 +49,7 @@ impl TryFrom<u8> for Make {
 /// Six levels, the first of some kind and the others Bloom, over an exact end, and the retry layer above.
 pub type Tower<F> = Retry<BloomBelow<F>>;
 
-/// Levels of some make.
+/// Levels of some make. The interface of levels is generic, so they can't be a `dyn Decider`.
 #[derive(Drop)]
 pub enum AnyLevels {
     AllBloom(Box<Tower<Bloom>>),

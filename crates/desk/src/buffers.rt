@@ -57,10 +57,8 @@ impl Buffers {
 
     /// What the buffer of a name holds.
     pub(crate) fn get(&self, name: &str) -> Result<&[u8], Fault> {
-        match self.all.get(name) {
-            Some(bytes) => Ok(bytes.as_slice()),
-            None => Err(Fault::NoSuchBuffer),
-        }
+        let bytes = self.all.get(name).ok_or(Fault::NoSuchBuffer)?;
+        Ok(bytes.as_slice())
     }
 
     /// The buffer of a name with its bytes changed; that of the desk stays as it is.

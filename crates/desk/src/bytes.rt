@@ -5,10 +5,8 @@ ghost use Rattle.fields.specs.Reading.{checked};
 ghost use Rattle.desk.specs.Bytes.{flipped, shortened, resealed};
 
 use crate::faults::Fault;
+use fields::checks::CHECK;
 use std::alloc::AllocError;
-
-/// The tag of the field of a check.
-const CHECK: u8 = 0xFF;
 
 /// Replaces the byte at an offset by its exclusive or with another.
 pub(crate) fn flip(bytes: &mut [u8], offset: usize, byte: u8) -> Result<(), Fault>

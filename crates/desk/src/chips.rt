@@ -1,3 +1,4 @@
+//! The commands on the one chip pass.
 use crate::arguments;
 use crate::faults::Fault;
 use crate::line::Line;

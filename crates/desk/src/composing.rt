@@ -14,7 +14,7 @@ use passes::kind::PassKind;
 use std::alloc::{AllocError, Global};
 use std::fmt::Write;
 
-/// The byte of a side, or the number given.
+/// The byte of a side, or the number given: words that are not allowed can be composed too.
 fn side_byte(word: &[u8]) -> Result<u8, Fault> {
     match arguments::side(word) {
         Ok(side) => Ok(in_sheet(side).into()),
@@ -22,7 +22,7 @@ fn side_byte(word: &[u8]) -> Result<u8, Fault> {
     }
 }
 
-/// The byte of a kind of pass, or the number given.
+/// The byte of a kind of pass, or the number given: rows that are not allowed can be composed too, so it is no `PassKind`.
 fn kind_byte(word: &[u8]) -> Result<u8, Fault> {
     match word {
         b"tag" => Ok(PassKind::Tag.into()),

@@ -33,13 +33,14 @@ fn publication(bytes: &[u8], line: &mut Line<'_>) -> Result<(), Fault> {
     } = publication.head;
     line.say(format_args!("publication make {make} hashes {hashes} salt {salt} number {number}"))?;
     let coverage = publication.coverage;
+    // by number, as the reader's crate gives a row and its definitions count them
     for row in (0..coverage.len() / 7).filter_map(|i| coverage_row(coverage, i)) {
         line.say(format_args!("covers {row}"))?;
     }
     show_tables(publication.tables, line)
 }
 
-/// Shows the length and the hash of each table.
+/// Shows the length and the hash of each table: a line for each, so no `Display`.
 fn show_tables(tables: &[u8], line: &mut Line<'_>) -> Result<(), Fault> {
     let mut reader = Reader::new(tables);
     for level in 1..=7u8 {
@@ -67,7 +68,7 @@ fn sheet(bytes: &[u8], line: &mut Line<'_>) -> Result<(), Fault> {
     Ok(())
 }
 
-/// Shows a word of a sheet.
+/// Shows a word of a sheet, if its form is a pass: a `Display` would have to print nothing for the others.
 fn show_word(word: SheetWord<'_>, line: &mut Line<'_>) -> Result<(), AllocError> {
     match read_form(word.form) {
         Some(pass) => line.say(format_args!("word {} {pass}", word.side)),

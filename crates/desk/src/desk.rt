@@ -17,7 +17,7 @@ use crate::{
 use passes::chip::ChipPass;
 use std::alloc::{AllocError, Global};
 
-/// What commands work on.
+/// What commands work on. That a command which isn't done leaves it alone is a clause of each call: it speaks of before and after.
 #[derive(Drop)]
 pub struct Desk {
     heap: Global,
@@ -139,7 +139,8 @@ impl Desk {
         }
     }
 
-    /// Does a command. A match says which: a table of functions would hand out function pointers.
+    /// Does a command. A match says which, as for each list of commands: a table of functions would hand out function pointers, which
+    /// the checker refuses.
     fn run(&mut self, command: Command, line: &mut Line<'_>) -> Result<(), Fault>
         ensures { undone result ≡ true → Same self.new self.old }
     {

@@ -51,7 +51,7 @@ pub(crate) fn span_words(heap: Global, side: u8, span: &Span) -> Result<Vec<u8>,
     ensures { IfOk result (λ v. v.items ≡ span_words side span.now span.now.numbers.count) }
 {
     let mut fields = Vec::new(heap);
-    // by place: an iterator of the passes would be longer than the loops that it serves
+    // by place, as `Span::how_many`
     'passes: for i in 0..span.count() {
         let form = span.pass(i).written();
         fields.extend_from_slice(&word_field(heap, side, form.as_bytes())?)?;
@@ -59,7 +59,7 @@ pub(crate) fn span_words(heap: Global, side: u8, span: &Span) -> Result<Vec<u8>,
     Ok(fields)
 }
 
-/// The field of a coverage row.
+/// The field of a coverage row. Its kind is a byte, since any can be composed.
 pub(crate) fn row_field(
     heap: Global,
     kind: u8,
@@ -81,6 +81,7 @@ pub(crate) fn row_field(
     Ok(fields)
 }
 
+// What its calls promise differs in what each adds, so no clause serves them all.
 impl Draft {
     /// A sheet with its head, and no word or row.
     pub(crate) fn new(

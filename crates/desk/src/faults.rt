@@ -35,6 +35,7 @@ pub enum Fault {
     Refused(Refusal),
 }
 
+// The three are written out: contracts say by `from_gives` which fault `?` makes of an error.
 impl From<AllocError> for Fault {
     ghost from_gives = { λ e r. r ≡ Memory e };
 

@@ -6,7 +6,8 @@ use std::fmt::{Display, Write};
 /// The words behind a command.
 pub type Words<'a> = &'a [&'a [u8]];
 
-/// What a command is given: the number of its line, the words behind it, and the answer, to which it adds.
+/// What a command is given: the number of its line, the words behind it, and the answer, to which it adds. What it works
+/// on stands beside it, since each is lent only the parts of the desk that it reads or changes.
 #[derive(Drop)]
 pub struct Line<'a> {
     pub(crate) heap: Global,

@@ -121,7 +121,7 @@ impl Register {
         ensures kept { undone result ≡ true → self.new ≡ self.old }
     {
         self.admit(span.kind(), span.count() as usize)?;
-        // by place, since the side goes by place too
+        // by place, as `Span::how_many`; the side goes by place too
         'passes: for i in 0..span.count() {
             let id = span.pass(i);
             let side = sides.at(i);

@@ -1,7 +1,7 @@
 use levels::Side;
 use std::fmt;
 
-/// Bytes, to be written in capital hexadecimal digits.
+/// Bytes, to be written in capital hexadecimal digits. A chip pass writes its serial so, too: one loop, and no reason for a public type.
 #[derive(Clone, Copy)]
 pub struct Hex<'a>(pub &'a [u8]);
 
@@ -14,7 +14,7 @@ impl<'a> fmt::Display for Hex<'a> {
     }
 }
 
-/// What a sheet says of a pass of this side: blocked is for, good is against.
+/// What a sheet says of a pass of this side: blocked is for, good is against. Both types are of crates below, so no `From` can say it here.
 pub(crate) fn in_sheet(side: Side) -> sheets::Side {
     match side {
         Side::For => sheets::Side::Blocked,

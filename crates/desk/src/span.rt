@@ -73,13 +73,14 @@ impl Span {
             SpanKind::Chips(length) => Pass::Chip(chip_pass(self.issuer, length, number)),
         }
     }
-    /// Tries each of its passes in turn, and says with how many it went well.
+
+    /// Tries each of its passes in turn, and says for how many the test says yes.
     pub(crate) fn how_many<F: FnMut(&Pass) -> bool>(&self, mut test: F) -> u16
         requires { F.IsAlwaysCallable test }
         ensures { result ≤ self.now.numbers.count }
     {
         let mut well = 0;
-        // by place: an iterator of the passes would be longer than the loops that it serves
+        // by place: an iterator would be a type of its own with a state and a contract, for three loops that count as it would
         for i in 0..self.count() {
             if test(&self.pass(i)) {
                 well += 1;

@@ -1,4 +1,5 @@
-//! Rows: written forms packed one behind the other, each behind its length.
+//! Rows: written forms packed one behind the other, each behind its length. They stand as they are saved, since gates have no heap and
+//! the list is loaded and saved by one copy.
 ghost use Rattle.std.specs.Prelude.{◌≡◌, ◌+◌, ◌≤◌, [], ◌∷◌, ◌++◌, length, take, drop, is_ok, Decides, MatchOption, slice_index};
 ghost use Rattle.std.specs.Iterator.{YieldsFirstRef, item_count};
 ghost use Rattle.passes.specs.Order.{before};

@@ -1,4 +1,4 @@
-//! Fields: reading them one after the other from an input, and the check that ends them.
+//! Fields: reading them one after the other from an input, writing them one behind the other, and the check that ends them.
 #![tactic(auto)]
 
 ghost use Rattle.std.specs.Prelude.{◌≡◌};

@@ -37,9 +37,10 @@ pub trait Decider: Sized {
         sizes: &[usize],
         register: &mut Marked<'_, I>,
     ) -> Result<(), Refusal>
-        ensures { MatchResult result
+        ensures built { MatchResult result
             (λ _. decider.build at sizes.now (rows I.form register.old.list.now register.old.marks.now) ≡ Ok (state self.new))
-            (λ e. decider.build at sizes.now (rows I.form register.old.list.now register.old.marks.now) ≡ Err e) };
+            (λ e. decider.build at sizes.now (rows I.form register.old.list.now register.old.marks.now) ≡ Err e) }
+        ensures kept { register.new.list.now ≡ register.old.list.now };
 
     /// Whether the fields that it saves as this level fit so many bytes.
     fn fits(&self, level: u8, room: usize) -> bool

@@ -23,9 +23,8 @@ fn deeper(at: Hashing) -> Hashing
     ensures { result ≡ deeper at }
 {
     Hashing {
-        salt: at.salt,
         level: at.level.saturating_add(1),
-        hashes: at.hashes,
+        ..at
     }
 }
 

@@ -37,6 +37,7 @@ impl<I: Identifier> Marked<'_, I> {
             (λ _. filled F.Filter.kind (F.Filter.view filter.old) 0 (rows I.Identifier.form self.now.list.now self.now.marks.now) ≡ Ok (F.Filter.view filter.new))
             (λ i. filled F.Filter.kind (F.Filter.view filter.old) 0 (rows I.Identifier.form self.now.list.now self.now.marks.now) ≡ Err i) }
     {
+        // A mark is compared as the byte that it is: of the three, only "for" matters here.
         for (i, entry) in self.list.iter().enumerate() {
             if self.marks[i] == Mark::For as u8 && !filter.put(&entry.id) {
                 return Err(i);
@@ -58,8 +59,10 @@ impl<I: Identifier> Marked<'_, I> {
 
     /// Gives each identifier its mark for the decider below.
     pub(crate) fn turn<F: Filter>(&mut self, filter: &F)
-        ensures { rows I.Identifier.form self.new.list.now self.new.marks.now ≡ map (turned F.Filter.kind (F.Filter.view filter.now)) (rows I.Identifier.form self.old.list.now self.old.marks.now) }
+        ensures kept { self.new.list.now ≡ self.old.list.now }
+        ensures turned { rows I.Identifier.form self.new.list.now self.new.marks.now ≡ map (turned F.Filter.kind (F.Filter.view filter.now)) (rows I.Identifier.form self.old.list.now self.old.marks.now) }
     {
+        // by index: what stands in a list after a zip of `iter_mut` isn't known
         let marks = &mut *self.marks;
         for (i, entry) in self.list.iter().enumerate() {
             marks[i] = next_mark(filter, &entry.id, marks[i].into()).into();

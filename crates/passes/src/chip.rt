@@ -12,7 +12,7 @@ use crate::kind::PassKind;
 use refusals::{Reason, Refusal};
 use std::fmt;
 
-/// A stored chip pass. It lies in registers, so it is a plain record: n is read as a serial of 1 + n mod 20 bytes.
+/// A stored chip pass. Gates have no heap, so it is a plain record with its serial in place: n is read as a serial of 1 + n mod 20 bytes.
 #[derive(Clone, Copy)]
 pub struct ChipPass {
     pub issuer: u16,
@@ -88,7 +88,8 @@ impl fmt::Display for ChipPass {
     }
 }
 
-/// A chip pass whose serial is borrowed from a message.
+/// A chip pass whose serial is borrowed from a message. A call that is given issuer and serial by themselves makes or fills a pass, and judges the
+/// serial first.
 #[derive(Clone, Copy)]
 pub struct ChipRef<'a> {
     pub(crate) issuer: u16,

@@ -63,6 +63,7 @@ pub fn read_form(bytes: &[u8]) -> Option<Pass<'_>>
         return None;
     }
     let issuer = issuer_of(bytes);
+    // The first of lawful bytes names one of two kinds: a match on the kind would have a third arm that never comes.
     if bytes[0] == PassKind::Tag as u8 {
         let number = u64::from_be_bytes([
             bytes[3], bytes[4], bytes[5], bytes[6], bytes[7], bytes[8], bytes[9], bytes[10],

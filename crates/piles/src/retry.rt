@@ -31,8 +31,10 @@ pub struct Retry<D> {
 
 /// Marks each pass by its side.
 fn mark_sides<I: Identifier>(register: &mut Marked<'_, I>)
-    ensures { rows I.Identifier.form register.new.list.now register.new.marks.now ≡ listed I.Identifier.form register.old.list.now }
+    ensures kept { register.new.list.now ≡ register.old.list.now }
+    ensures marked { rows I.Identifier.form register.new.list.now register.new.marks.now ≡ listed I.Identifier.form register.old.list.now }
 {
+    // by index: what stands in a list after a zip of `iter_mut` isn't known
     let marks = &mut *register.marks;
     for (i, entry) in register.list.iter().enumerate() {
         marks[i] = Mark::from(entry.side).into();
@@ -59,7 +61,11 @@ impl<D: Decider> Retry<D> {
         if marks.0.len() < n {
             return Err(Reason::NoRoom.into());
         }
-        self.try_salts(at, sizes, list, &mut marks.0[0..n])
+        let mut register = Marked {
+            list,
+            marks: &mut marks.0[0..n],
+        };
+        self.try_salts(at, sizes, &mut register)
     }
 
     /// One try, at the salt given.
@@ -67,17 +73,15 @@ impl<D: Decider> Retry<D> {
         &mut self,
         at: Hashing,
         sizes: &[usize],
-        list: &[Entry<I>],
-        marks: &mut [u8],
+        marked: &mut Marked<'_, I>,
     ) -> Result<(), Refusal>
-        requires { length list.now ≡ length marks.old }
-        ensures { MatchResult result
-            (λ _. D.Decider.decider.build at sizes.now (listed I.Identifier.form list.now) ≡ Ok (D.Decider.state self.new.below))
-            (λ e. D.Decider.decider.build at sizes.now (listed I.Identifier.form list.now) ≡ Err e) }
+        ensures built { MatchResult result
+            (λ _. D.Decider.decider.build at sizes.now (listed I.Identifier.form marked.old.list.now) ≡ Ok (D.Decider.state self.new.below))
+            (λ e. D.Decider.decider.build at sizes.now (listed I.Identifier.form marked.old.list.now) ≡ Err e) }
+        ensures kept { marked.new.list.now ≡ marked.old.list.now }
     {
-        let mut register = Marked { list, marks };
-        mark_sides(&mut register);
-        self.below.build(at, sizes, &mut register)
+        mark_sides(marked);
+        self.below.build(at, sizes, marked)
     }
 
     /// Tries one salt after the other, until one succeeds or the eighth fails.
@@ -85,19 +89,18 @@ impl<D: Decider> Retry<D> {
         &mut self,
         at: Hashing,
         sizes: &[usize],
-        list: &[Entry<I>],
-        marks: &mut [u8],
+        register: &mut Marked<'_, I>,
     ) -> Result<u16, Refusal>
-        requires { length list.now ≡ length marks.old }
-        ensures { MatchResult result
-            (λ salt. retried D.Decider.decider at sizes.now (listed I.Identifier.form list.now) 7 at.salt ≡ Ok (salt, D.Decider.state self.new.below))
-            (λ e. retried D.Decider.decider at sizes.now (listed I.Identifier.form list.now) 7 at.salt ≡ Err e) }
+        ensures kept { register.new.list.now ≡ register.old.list.now }
+        ensures built { MatchResult result
+            (λ salt. retried D.Decider.decider at sizes.now (listed I.Identifier.form register.old.list.now) 7 at.salt ≡ Ok (salt, D.Decider.state self.new.below))
+            (λ e. retried D.Decider.decider at sizes.now (listed I.Identifier.form register.old.list.now) 7 at.salt ≡ Err e) }
     {
         let mut salt = at.salt;
         let mut more: u8 = 7;
         // The loop yields what the tries came to: a `for` has no value.
         let outcome = loop {
-            match self.try_salt(Hashing { salt, ..at }, sizes, list, marks) {
+            match self.try_salt(Hashing { salt, ..at }, sizes, register) {
                 Ok(()) => break Ok(salt),
                 Err(refusal) => {
                     if more == 0 {

@@ -1,20 +1,13 @@
 //! The head of a publication.
 ghost use Rattle.std.specs.Prelude.{◌≡◌, ◌+◌, ◌≤◌, length, Ok, Err, MatchResult};
-ghost use Rattle.filters.specs.Kind.{hashes_allowed};
 ghost use Rattle.publications.specs.Reading.{head_in, head_at};
 
 use crate::known::KnownMakes;
 use fields::in_field;
 use fields::reader::Reader;
+use filters::allows_hashes;
 use publications::{HEAD, PublicationHead};
 use refusals::{Reason, Refusal};
-
-/// Whether a hash count is allowed.
-fn is_hash_count(n: u8) -> bool
-    ensures { result ≡ hashes_allowed n }
-{
-    1 <= n && n <= 8
-}
 
 /// The head in a body of 9 bytes.
 fn head_in<M: KnownMakes>(makes: &M, body: &[u8]) -> Result<PublicationHead, Reason>
@@ -23,7 +16,7 @@ fn head_in<M: KnownMakes>(makes: &M, body: &[u8]) -> Result<PublicationHead, Rea
 {
     let number = u32::from_be_bytes([body[5], body[6], body[7], body[8]]);
     let known = makes.knows(body[1]);
-    if body[0] != 1 || !known || !is_hash_count(body[2]) || number == 0 {
+    if body[0] != 1 || !known || !allows_hashes(body[2]) || number == 0 {
         return Err(Reason::BadValue);
     }
     Ok(PublicationHead {

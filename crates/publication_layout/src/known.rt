@@ -48,6 +48,7 @@ impl<A: Tabled, B: Tabled, G: Tabled> OneTwoAnd<A, B, G> {
 impl<A: Tabled, B: Tabled, G: Tabled> KnownMakes for OneTwoAnd<A, B, G> {
     ghost makes = { λ k. known_makes A.Decider.saves.tables B.Decider.saves.tables G.Decider.saves.tables k.own };
 
+    // A make is a number: a reader may know one of its own.
     fn knows(&self, make: u8) -> bool {
         make == self.own || make == 1 || make == 2
     }

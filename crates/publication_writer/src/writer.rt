@@ -42,6 +42,7 @@ fn write_coverage(rows: &[CoverageRow], out: &mut [u8]) -> usize
     3 + write_each(rows, &mut out[3..])
 }
 
+// Rows and levels are lent by a caller who holds them apart: a struct of both would be made for one call.
 /// Whether a publication with these rows and levels fits into so many bytes, under any head.
 fn has_room<D: Decider>(rows: &[CoverageRow], levels: &D, room: usize) -> bool
     ensures { (h : PublicationHead) → result ≡ nat_le (length (published h rows.now (D.Decider.decider.saved 1 (D.Decider.state levels.now)))) room }

@@ -1,7 +1,6 @@
-use Rattle.std.proofs.Common.{◌≡◌, ℕ, ltb, length, replicate, Err, sym, ap, ◌∙◌, arith, rules}
+use Rattle.std.proofs.Common.{ltb, length, Err, sym, ap, ◌∙◌, arith}
 use Rattle.std.proofs.lemmas.Result.{MatchResult-weaker}
 use Rattle.std.proofs.lemmas.Bool.{lt-ltb, le-ltb, cond-true, cond-false}
-use Rattle.filters.specs.Fronts.{front_length}
 use Rattle.levels.specs.Rows.{listed}
 use Rattle.piles.proofs.Listed.{length_listed}
 use Rattle.piles.proofs.Salts.{outcome}
@@ -19,18 +18,13 @@ returns-then-marks-n g c =
       zero = c.drop-marks.ensures;
     }
 
-pub returns : goal.returns
-returns g c =
-    let es = c.args.list.now in
-    let bytes = c.args.work.now in
-    let work = length bytes in
-    let n = length_listed g.I.Identifier.form es in
-    let rs = listed g.I.Identifier.form es in
+pub returns-clause-built : goal.returns-clause-built
+returns-clause-built g c =
+    let n = length_listed g.I.Identifier.form c.args.list.now in
+    let rs = listed g.I.Identifier.form c.args.list.now in
+    let work = length c.args.work.now in
     let enough = cond-false (ltb work (length rs)) _ _ (le-ltb work (length rs) (omega (arith, c.if-marks-n.false))) in
-    let part = c.try_salts.new.marks in
-    let size : length part ≡ length es = search rules in
-    record {
-      built = MatchResult-weaker c.try_salts.result c.try_salts.ensures (λ _ p. enough ∙ p) (λ e p. enough ∙ p);
-      law = outcome g.D.Decider.decider;
-      zero = c.drop-marks-2.ensures ∙ ap (λ (k : ℕ). replicate k 0) (front_length (length es) part bytes size (omega (arith, c.if-marks-n.false)));
-    }
+    MatchResult-weaker c.try_salts.result c.try_salts.ensures.built (λ _ p. enough ∙ p) (λ e p. enough ∙ p)
+
+pub returns-clause-law : goal.returns-clause-law
+returns-clause-law g c = outcome g.D.Decider.decider
