@@ -70,6 +70,7 @@ impl Filter for Bloom {
 
     ghost sound = { λ b. bloom_sound b.table.settings b.table.buffer b.table.real.0 b.table.real.1 b.allowed };
 
+    // From here to `take_over` the kinds over a table are alike but for sizes: an impl for all of them would overlap that of the exact list.
     fn blank() -> Bloom {
         let settings = Settings {
             hashing: Hashing::FIRST,
@@ -88,7 +89,6 @@ impl Filter for Bloom {
         (1..=MOST_BYTES).contains(&len)
     }
 
-    // From here to `take_over` the table serves, and any bytes do: an impl for all filters over a table would overlap that of the exact list.
     fn judge_content(_body: &[u8]) -> Result<(), Refusal> {
         Ok(())
     }

@@ -119,7 +119,7 @@ impl Cuckoo {
                 bucket: at.bucket,
                 fingerprint: kicked,
             });
-            // The lowest empty cell ends the search from within the walk over the bucket's cells.
+            // The lowest empty cell ends the search from within the walk over the bucket's cells: the project has such a search end at a label.
             for k in 0..BUCKET_SIZE {
                 let cell = BUCKET_SIZE * at.bucket + k;
                 if self.table.buffer[cell] == 0 {

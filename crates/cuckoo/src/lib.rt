@@ -36,6 +36,7 @@ impl Filter for Cuckoo {
 
     ghost sound = { λ c. cuckoo_sound c.table.settings c.table.buffer c.table.real.0 c.table.real.1 c.allowed };
 
+    // From here to `take_over` the kinds over a table are alike but for sizes: an impl for all of them would overlap that of the exact list.
     fn blank() -> Cuckoo {
         let settings = Settings {
             hashing: Hashing::FIRST,
@@ -54,7 +55,6 @@ impl Filter for Cuckoo {
         (BUCKET_SIZE..=MOST_BYTES).contains(&len) && len.is_power_of_two()
     }
 
-    // From here to `take_over` the table serves, and any bytes do: an impl for all filters over a table would overlap that of the exact list.
     fn judge_content(_body: &[u8]) -> Result<(), Refusal> {
         Ok(())
     }

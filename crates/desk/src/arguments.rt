@@ -59,7 +59,7 @@ pub(crate) fn table_size(word: &[u8]) -> Result<usize, Fault> {
     within(word, 0, 0xFFFF)
 }
 
-/// Bytes in hexadecimal digits.
+/// Bytes in hexadecimal digits. The heap is lent by the caller, as std has it.
 pub(crate) fn bytes(heap: Global, word: &[u8]) -> Result<Vec<u8>, Fault> {
     hex::bytes(heap, word)?.ok_or(Fault::Usage)
 }
@@ -97,7 +97,7 @@ pub(crate) fn pass(heap: Global, words: Words<'_>) -> Result<Pass, Fault> {
     }
 }
 
-/// A side: blocked is for, good is against.
+/// A side: blocked is for, good is against. The type is of a crate below, so no `TryFrom` can say it here.
 pub(crate) fn side(word: &[u8]) -> Result<Side, Fault> {
     match word {
         b"blocked" => Ok(Side::For),

@@ -6,7 +6,8 @@ use passes::identifier::Identifier;
 use passes::kind::PassKind;
 use passes::tag::Tag;
 
-/// A pass of either kind, as a line names it.
+/// A pass of either kind, as a line names it. It holds its serial, where `passes::reading::Pass` borrows one from the bytes read; one type for both would
+/// need a parameter with a contract for its form, for two enums of two lines.
 #[derive(Clone, Copy)]
 pub enum Pass {
     Tag(Tag),

@@ -61,7 +61,7 @@ pub trait Filter: Sized {
     fn blank() -> Self
         ensures { view result ≡ kind.blank };
 
-    // Table size, hash count and saved bytes stand by themselves in the calls that judge: a filter's settings are what was judged.
+    // Table size, hash count or hashing, and saved bytes stand by themselves in the calls that judge and load: a filter's settings are what was judged.
     /// Whether this kind allows a table size and a hash count.
     fn allows(size: usize, hashes: u8) -> bool
         ensures { result ≡ kind.allows size hashes };

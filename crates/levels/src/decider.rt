@@ -11,7 +11,8 @@ use filters::Hashing;
 use passes::identifier::Identifier;
 use refusals::Refusal;
 
-/// What gives each identifier a side and a source.
+/// What gives each identifier a side and a source. Its calls on saved fields take what their implementations share (`at` and the reader, the level
+/// and the output or its room), and a decider over another hands it on changed.
 pub trait Decider: Sized {
     ghost State: { Type 0 };
 
@@ -30,7 +31,7 @@ pub trait Decider: Sized {
         ensures { (result.0, result.1) ≡ decider.decides (state self.now) (I.form id.now) };
 
     /// Builds it from a register under its marks; `sizes` has a table size for each level. Each level hands on another `at` and other
-    /// `sizes`, so the two are no struct.
+    /// `sizes`, with the same register, so they are no struct.
     fn build<I: Identifier>(
         &mut self,
         at: Hashing,

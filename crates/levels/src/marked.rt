@@ -8,7 +8,8 @@ use filters::{Filter, Settings};
 use passes::identifier::Identifier;
 use refusals::{Reason, Refusal};
 
-/// A register with a mark for each of its passes, in work bytes that are lent.
+/// A register with a mark for each of its passes, in work bytes that are lent. That a call keeps the list is a clause of each: it speaks of before
+/// and after, of which an invariant sees one.
 #[derive(Drop)]
 pub struct Marked<'a, I> {
     pub list: &'a [Entry<I>],
@@ -37,7 +38,7 @@ impl<I: Identifier> Marked<'_, I> {
             (λ _. filled F.Filter.kind (F.Filter.view filter.old) 0 (rows I.Identifier.form self.now.list.now self.now.marks.now) ≡ Ok (F.Filter.view filter.new))
             (λ i. filled F.Filter.kind (F.Filter.view filter.old) 0 (rows I.Identifier.form self.now.list.now self.now.marks.now) ≡ Err i) }
     {
-        // A mark is compared as the byte that it is: of the three, only "for" matters here.
+        // By index, which an error names; a mark is compared as the byte that it is, since of the three only "for" matters here.
         for (i, entry) in self.list.iter().enumerate() {
             if self.marks[i] == Mark::For as u8 && !filter.put(&entry.id) {
                 return Err(i);

@@ -17,7 +17,7 @@ pub trait Judge {
     fn measures(len: usize) -> bool
         ensures { result ≡ table.measures len };
 
-    /// Whether bytes of a fitting length are accepted under a hash count; the error is the reason why not.
+    /// Whether bytes of a fitting length are accepted under a hash count, as a filter's judge; the error is the reason why not.
     fn judge(hashes: u8, body: &[u8]) -> Result<(), Reason>
         ensures { result ≡ judged_as (table.judged hashes body.now) };
 }

@@ -42,7 +42,8 @@ fn mark_sides<I: Identifier>(register: &mut Marked<'_, I>)
 }
 
 impl<D: Decider> Retry<D> {
-    /// Builds from a register at the salts from the one given on, at most eight; says which succeeded.
+    /// Builds from a register at the salts from the one given on, at most eight; says which succeeded. The caller lends list and work bytes apart;
+    /// they are one `Marked` once there are enough of these.
     pub fn build_register<I: Identifier>(
         &mut self,
         at: Hashing,
@@ -98,7 +99,7 @@ impl<D: Decider> Retry<D> {
     {
         let mut salt = at.salt;
         let mut more: u8 = 7;
-        // The loop yields what the tries came to: a `for` has no value.
+        // The loop yields what the tries came to, as the project has it; a `for` has no value.
         let outcome = loop {
             match self.try_salt(Hashing { salt, ..at }, sizes, register) {
                 Ok(()) => break Ok(salt),

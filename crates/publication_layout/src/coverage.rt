@@ -41,7 +41,7 @@ fn row_in(row: &[u8; ROW]) -> Result<CoverageRow, Reason>
     })
 }
 
-/// Whether two rows have the same kind and issuer.
+/// Whether two rows have the same kind and issuer: these are numbers of a row, where `==` on a part of it would compare bytes.
 fn same_key(x: &[u8; ROW], y: &[u8; ROW]) -> bool
     ensures { result ≡ same_two x.now y.now }
 {

@@ -19,6 +19,7 @@ pub fn judge_sheet(input: &[u8]) -> Result<SheetSummary, Refusal>
         head: SheetHead { number: 0, step: 0 },
         words: 0,
     };
+    // What the reader gives says where the fields end.
     'fields: loop {
         match reader.next()? {
             SheetField::Head(head) => sheet.head = head,
