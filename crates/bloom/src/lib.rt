@@ -70,7 +70,8 @@ impl Filter for Bloom {
 
     ghost sound = { λ b. bloom_sound b.table.settings b.table.buffer b.table.real.0 b.table.real.1 b.allowed };
 
-    // From here to `take_over` the kinds over a table are alike but for sizes: an impl for all of them would overlap that of the exact list.
+    // From here to `take_over` the kinds over a table are alike but for sizes. A trait between, with one impl of `Filter` for all that have it,
+    // would ask six members of each and have nine of its own: for two kinds no fewer than these.
     fn blank() -> Bloom {
         let settings = Settings {
             hashing: Hashing::FIRST,
@@ -110,13 +111,12 @@ impl Filter for Bloom {
     }
 
     fn put<I: Identifier>(&mut self, id: &I) -> bool {
-        let at = self.table.settings.hashing;
-        self.set(id.hashes(at.salt, at.level));
+        let pair = self.table.pair_of(id);
+        self.set(pair);
         true
     }
 
     fn ask<I: Identifier>(&self, id: &I) -> bool {
-        let at = self.table.settings.hashing;
-        self.has(id.hashes(at.salt, at.level))
+        self.has(self.table.pair_of(id))
     }
 }

@@ -36,7 +36,8 @@ impl Filter for Cuckoo {
 
     ghost sound = { λ c. cuckoo_sound c.table.settings c.table.buffer c.table.real.0 c.table.real.1 c.allowed };
 
-    // From here to `take_over` the kinds over a table are alike but for sizes: an impl for all of them would overlap that of the exact list.
+    // From here to `take_over` the kinds over a table are alike but for sizes. A trait between, with one impl of `Filter` for all that have it,
+    // would ask six members of each and have nine of its own: for two kinds no fewer than these.
     fn blank() -> Cuckoo {
         let settings = Settings {
             hashing: Hashing::FIRST,
@@ -76,13 +77,11 @@ impl Filter for Cuckoo {
     }
 
     fn put<I: Identifier>(&mut self, id: &I) -> bool {
-        let at = self.table.settings.hashing;
-        let place = self.place(id.hashes(at.salt, at.level));
+        let place = self.place(self.table.pair_of(id));
         self.store(place)
     }
 
     fn ask<I: Identifier>(&self, id: &I) -> bool {
-        let at = self.table.settings.hashing;
-        self.stands(self.place(id.hashes(at.salt, at.level)))
+        self.stands(self.place(self.table.pair_of(id)))
     }
 }

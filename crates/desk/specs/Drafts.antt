@@ -1,8 +1,10 @@
 -- The fields of a sheet composed by hand.
-use Rattle.std.specs.Prelude.{ℕ, zero, suc, List, [], ◌∷◌, ◌++◌}
+use Rattle.std.specs.Prelude.{ℕ, zero, suc, List, [], ◌∷◌, ◌++◌, vec_items}
 use Rattle.passes.specs.Bytes.{be2}
 use Rattle.fields.specs.Fields.{field}
 use Rattle.fields.specs.Reading.{be4}
+use Rattle.desk.specs.declared.draft.More.{More}
+use Rattle.desk.specs.declared.draft.More.TheVariants.{Words, Row}
 use Rattle.desk.specs.declared.span.Span.{Span}
 use Rattle.desk.specs.Passes.{pass_form}
 use Rattle.desk.specs.Spans.{pass_at}
@@ -23,3 +25,16 @@ row_field kind issuer first last = field 0x23 (kind ∷ (be2 issuer ++ (be2 firs
 unfoldable pub span_words : ℕ → Span → ℕ → List ℕ
 span_words side s zero = []
 span_words side s (suc n) = span_words side s n ++ word_field side (pass_form (pass_at s n))
+
+-- the fields that are to be added, and how many words and rows they are
+abbrev pub more_fields : More → List ℕ
+more_fields (Words fields count) = vec_items fields
+more_fields (Row field) = vec_items field
+
+abbrev pub more_words : More → ℕ
+more_words (Words fields count) = count
+more_words (Row field) = 0
+
+abbrev pub more_rows : More → ℕ
+more_rows (Words fields count) = 0
+more_rows (Row field) = 1

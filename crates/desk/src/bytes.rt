@@ -6,6 +6,7 @@ ghost use Rattle.desk.specs.Bytes.{flipped, shortened, resealed};
 
 use crate::faults::Fault;
 use fields::checks::CHECK;
+use fields::written::header;
 use std::alloc::AllocError;
 
 /// Replaces the byte at an offset by its exclusive or with another.
@@ -34,8 +35,7 @@ pub(crate) fn shorten(bytes: &mut Vec<u8>, length: usize) -> Result<(), Fault>
 pub(crate) fn add_field(bytes: &mut Vec<u8>, tag: u8, body: &[u8]) -> Result<(), AllocError>
     ensures { OnOk result (bytes.new.items ≡ bytes.old.items ++ field tag body.now) }
 {
-    let length = ((body.len() & 0xFFFF) as u16).to_be_bytes();
-    bytes.extend_from_slice(&[tag, length[0], length[1]])?;
+    bytes.extend_from_slice(&header(tag, body.len()))?;
     bytes.extend_from_slice(body)
 }
 

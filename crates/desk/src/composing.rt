@@ -36,7 +36,7 @@ fn chip_form(heap: Global, issuer: u16, serial: &[u8]) -> Result<Vec<u8>, AllocE
     ensures { IfOk result (λ v. v.items ≡ 0x43 ∷ (be2 issuer ++ serial.now)) }
 {
     let i = issuer.to_be_bytes();
-    let mut form = vec![in heap; PassKind::Chip as u8, i[0], i[1]]?;
+    let mut form = vec![in heap; u8::from(PassKind::Chip), i[0], i[1]]?;
     form.extend_from_slice(serial)?;
     Ok(form)
 }
@@ -59,12 +59,10 @@ fn form(heap: Global, words: Words<'_>) -> Result<Vec<u8>, Fault> {
 
 /// A sheet that is begun.
 pub(crate) fn begin(line: &mut Line<'_>) -> Result<Draft, Fault> {
-    let (words, edition) = match line.words {
-        [front @ .., edition] if front.len() == 3 => (front, arguments::number(edition)?),
-        words => (words, 1),
-    };
-    let [name, number, step] = words else {
-        return Err(Fault::Usage);
+    let (name, number, step, edition) = match line.words {
+        [name, number, step] => (name, number, step, 1),
+        [name, number, step, edition] => (name, number, step, arguments::number(edition)?),
+        _ => return Err(Fault::Usage),
     };
     let name = arguments::name(name)?;
     let number = arguments::number(number)?;
@@ -111,15 +109,10 @@ pub(crate) fn row(line: &Line<'_>) -> Result<More, Fault> {
 pub(crate) fn add(draft: &mut Draft, more: More, line: &mut Line<'_>) -> Result<(), Fault>
     ensures { undone result ≡ true → draft.new ≡ draft.old }
 {
+    draft.add(&more)?;
     match more {
-        More::Words(fields, count) => {
-            draft.add_words(&fields, count)?;
-            line.say(format_args!("word {}", draft.words))?;
-        }
-        More::Row(field) => {
-            draft.add_row(&field)?;
-            line.say(format_args!("row {}", draft.rows))?;
-        }
+        More::Words(..) => line.say(format_args!("word {}", draft.words))?,
+        More::Row(_) => line.say(format_args!("row {}", draft.rows))?,
     }
     Ok(())
 }

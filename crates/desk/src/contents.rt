@@ -4,10 +4,11 @@ use crate::buffers::Buffers;
 use crate::faults::Fault;
 use crate::line::Line;
 use fields::reader::Reader;
+use levels::tables::tag_of;
 use makes::read_any;
 use passes::reading::read_form;
 use publication_layout::coverage::coverage_row;
-use publications::PublicationHead;
+use publications::{PublicationHead, ROW_SIZE};
 use sheet_layout::judging::judge_sheet;
 use sheet_layout::reader::SheetReader;
 use sheets::{SheetField, SheetHead, SheetWord};
@@ -33,8 +34,8 @@ fn publication(bytes: &[u8], line: &mut Line<'_>) -> Result<(), Fault> {
     } = publication.head;
     line.say(format_args!("publication make {make} hashes {hashes} salt {salt} number {number}"))?;
     let coverage = publication.coverage;
-    // by number, as the reader's crate gives a row and its definitions count them
-    for row in (0..coverage.len() / 7).filter_map(|i| coverage_row(coverage, i)) {
+    // by number: `coverage_row` judges a row where it stands, and an iterator of rows would be a type of its own for this one loop
+    for row in (0..coverage.len() / ROW_SIZE).filter_map(|i| coverage_row(coverage, i)) {
         line.say(format_args!("covers {row}"))?;
     }
     show_tables(publication.tables, line)
@@ -44,7 +45,7 @@ fn publication(bytes: &[u8], line: &mut Line<'_>) -> Result<(), Fault> {
 fn show_tables(tables: &[u8], line: &mut Line<'_>) -> Result<(), Fault> {
     let mut reader = Reader::new(tables);
     for level in 1..=7u8 {
-        let body = reader.field(16 + level, 0, 65_535)?;
+        let body = reader.field(tag_of(level), 0, 65_535)?;
         let length = body.len();
         let check = murmur::hash(0, body);
         line.say(format_args!("table {level} length {length} check 0x{check:08X}"))?;

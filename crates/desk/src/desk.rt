@@ -120,7 +120,8 @@ impl Desk {
         }
     }
 
-    /// Does a command on the sheet that was begun, of which there has to be one.
+    /// Does a command on the sheet that was begun, of which there has to be one: that is tested here again, as the clause on what stays is of the
+    /// whole desk.
     fn compose(&mut self, part: Part, line: &mut Line<'_>) -> Result<(), Fault>
         ensures { undone result ≡ true → Same self.new self.old }
     {

@@ -3,7 +3,7 @@ ghost use Rattle.std.specs.Prelude.{◌≡◌, ◌+◌, ◌-◌, ◌^◌, min, t
 ghost use Rattle.passes.specs.Bytes.{be2};
 ghost use Rattle.fields.specs.Reading.{checked};
 ghost use Rattle.desk.specs.Faults.{undone};
-ghost use Rattle.desk.specs.Drafts.{head_field, word_field, row_field, span_words};
+ghost use Rattle.desk.specs.Drafts.{head_field, word_field, row_field, span_words, more_fields, more_words, more_rows};
 
 use crate::buffers::LONGEST;
 use crate::bytes::{add_check, add_field};
@@ -34,7 +34,38 @@ pub enum More {
     Row(Vec<u8>),
 }
 
-/// The field of a word: the byte of its side, and a form.
+impl More {
+    /// Its fields.
+    fn fields(&self) -> &[u8]
+        ensures { result.now ≡ more_fields self.now }
+    {
+        match self {
+            More::Words(fields, _) | More::Row(fields) => fields,
+        }
+    }
+
+    /// How many words it has.
+    fn words(&self) -> u64
+        ensures { result ≡ more_words self.now }
+    {
+        match self {
+            More::Words(_, count) => *count,
+            More::Row(_) => 0,
+        }
+    }
+
+    /// How many coverage rows it has.
+    fn rows(&self) -> u64
+        ensures { result ≡ more_rows self.now }
+    {
+        match self {
+            More::Words(..) => 0,
+            More::Row(_) => 1,
+        }
+    }
+}
+
+/// The field of a word: the byte of its side, and a form. The side is a byte, since any can be composed.
 pub(crate) fn word_field(heap: Global, side: u8, form: &[u8]) -> Result<Vec<u8>, AllocError>
     ensures { IfOk result (λ v. v.items ≡ word_field side form.now) }
 {
@@ -45,7 +76,7 @@ pub(crate) fn word_field(heap: Global, side: u8, form: &[u8]) -> Result<Vec<u8>,
     Ok(fields)
 }
 
-/// The fields of a word for each pass of a span.
+/// The fields of a word for each pass of a span, under the byte of a side.
 #[tactic(auto, unfolding(crate::specs::Drafts::span_words))]
 pub(crate) fn span_words(heap: Global, side: u8, span: &Span) -> Result<Vec<u8>, AllocError>
     ensures { IfOk result (λ v. v.items ≡ span_words side span.now span.now.numbers.count) }
@@ -81,7 +112,6 @@ pub(crate) fn row_field(
     Ok(fields)
 }
 
-// What its calls promise differs in what each adds, so no clause serves them all.
 impl Draft {
     /// A sheet with its head, and no word or row.
     pub(crate) fn new(
@@ -111,39 +141,20 @@ impl Draft {
     }
 
     /// Adds fields at the end, unless the sheet with its check would be longer than a buffer may be.
-    fn add(&mut self, fields: &[u8]) -> Result<(), Fault>
-        ensures added { OnOk result (self.new.bytes.items ≡ self.old.bytes.items ++ fields.now) }
-        ensures counts { (self.new.words ≡ self.old.words) × (self.new.rows ≡ self.old.rows) × (self.new.name ≡ self.old.name) }
-        ensures judged { undone result ≡ nat_lt 65536 (vec_len self.old.bytes + length fields.now + 7) }
+    pub(crate) fn add(&mut self, more: &More) -> Result<(), Fault>
+        ensures added { OnOk result ((self.new.bytes.items ≡ self.old.bytes.items ++ more_fields more.now) × (self.new.words ≡ min (self.old.words + more_words more.now) (2 ^ 64 - 1)) × (self.new.rows ≡ min (self.old.rows + more_rows more.now) (2 ^ 64 - 1))) }
+        ensures named { self.new.name ≡ self.old.name }
+        ensures judged { undone result ≡ nat_lt 65536 (vec_len self.old.bytes + length (more_fields more.now) + 7) }
         ensures kept { undone result ≡ true → self.new ≡ self.old }
     {
+        let fields = more.fields();
         let length = self.bytes.len().saturating_add(fields.len());
         if length.saturating_add(7) > LONGEST {
             return Err(Fault::BufferTooLong);
         }
         self.bytes.extend_from_slice(fields)?;
-        Ok(())
-    }
-
-    /// Adds the fields of so many words.
-    pub(crate) fn add_words(&mut self, fields: &[u8], count: u64) -> Result<(), Fault>
-        ensures added { OnOk result ((self.new.bytes.items ≡ self.old.bytes.items ++ fields.now) × (self.new.words ≡ min (self.old.words + count) (2 ^ 64 - 1)) × (self.new.rows ≡ self.old.rows)) }
-        ensures judged { undone result ≡ nat_lt 65536 (vec_len self.old.bytes + length fields.now + 7) }
-        ensures kept { undone result ≡ true → self.new ≡ self.old }
-    {
-        self.add(fields)?;
-        self.words = self.words.saturating_add(count);
-        Ok(())
-    }
-
-    /// Adds the field of a row.
-    pub(crate) fn add_row(&mut self, fields: &[u8]) -> Result<(), Fault>
-        ensures added { OnOk result ((self.new.bytes.items ≡ self.old.bytes.items ++ fields.now) × (self.new.rows ≡ min (self.old.rows + 1) (2 ^ 64 - 1)) × (self.new.words ≡ self.old.words)) }
-        ensures judged { undone result ≡ nat_lt 65536 (vec_len self.old.bytes + length fields.now + 7) }
-        ensures kept { undone result ≡ true → self.new ≡ self.old }
-    {
-        self.add(fields)?;
-        self.rows = self.rows.saturating_add(1);
+        self.words = self.words.saturating_add(more.words());
+        self.rows = self.rows.saturating_add(more.rows());
         Ok(())
     }
 

@@ -95,11 +95,7 @@ pub(crate) fn reopen(
         return Err(Fault::Usage);
     };
     let name = arguments::name(name)?;
-    let hashing = Hashing {
-        salt: arguments::number(salt)?,
-        level: 1,
-        hashes: arguments::number(hashes)?,
-    };
+    let hashing = Hashing::at_top(arguments::number(salt)?, arguments::number(hashes)?);
     let make = levels.as_ref().ok_or(Fault::NoLevels)?.make();
     let input = buffers.get(name)?;
     let levels = Levels::new(line.heap, make, Source::Fields { hashing, input })?;

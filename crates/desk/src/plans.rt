@@ -18,10 +18,6 @@ impl Plan {
     pub(crate) fn hashing(&self) -> Hashing
         ensures { result ≡ record { salt = self.now.salt; level = 1; hashes = self.now.hashes } }
     {
-        Hashing {
-            salt: self.salt,
-            level: 1,
-            hashes: self.hashes,
-        }
+        Hashing::at_top(self.salt, self.hashes)
     }
 }

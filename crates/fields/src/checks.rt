@@ -24,7 +24,7 @@ pub(crate) fn check_of(bytes: &[u8], place: usize) -> u32
 }
 
 /// Writes the check of the bytes before a place behind them, and says where it ends; none, and nothing is written, if it does not
-/// fit.
+/// fit. The place stands beside the output, which is lent, since nothing allocates here.
 pub fn seal(end: usize, out: &mut [u8]) -> Option<usize>
     ensures { (result, out.new) ≡ sealed end out.old }
 {

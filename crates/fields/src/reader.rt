@@ -55,7 +55,7 @@ impl<'a> Reader<'a> {
         if self.input[place] != due {
             return Err(Reason::WrongTag.at(due, place));
         }
-        let len = self.input[place + 1] as usize * 256 + self.input[place + 2] as usize;
+        let len = u16::from_be_bytes([self.input[place + 1], self.input[place + 2]]) as usize;
         self.at = place + 3;
         Ok(Header {
             tag: due,

@@ -1,5 +1,5 @@
 -- Kinds of filter whose state is a table of bytes, by what such a kind has of its own.
-use Rattle.std.specs.Prelude.{ℕ, Bool, true, false, ◌&&◌, List, length, take, replicate, is_some, Some, None, Option, ◌==◌}
+use Rattle.std.specs.Prelude.{ℕ, Bool, true, false, ◌&&◌, List, length, take, replicate, is_some, Some, None, Option, ◌==◌, min}
 use Rattle.std.specs.Option.{unwrap_or}
 use Rattle.passes.specs.Bytes.{bytes}
 use Rattle.passes.specs.Seeds.{hash_pair}
@@ -38,6 +38,10 @@ pair_of s x = hash_pair s.hashing.salt s.hashing.level x
 -- the view of settings and a table of which the front is in use
 abbrev pub table_view : Settings → List ℕ → TableView
 table_view s table = record { settings = s; table = take s.size table }
+
+-- the settings with a table size of at most 2,048 bytes
+abbrev pub bounded : Settings → Settings
+bounded s = record { hashing = s.hashing; size = min s.size 2048 }
 
 -- an empty table
 abbrev pub zeroed : Settings → TableView

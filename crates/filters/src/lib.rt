@@ -36,6 +36,17 @@ impl Hashing {
         level: 1,
         hashes: 1,
     };
+
+    /// How the first level of a pile hashes.
+    pub fn at_top(salt: u16, hashes: u8) -> Hashing
+        ensures { result ≡ record { salt = salt; level = 1; hashes = hashes } }
+    {
+        Hashing {
+            salt,
+            level: 1,
+            hashes,
+        }
+    }
 }
 
 /// What clear sets: how the filter hashes, and the size of its table in bytes.

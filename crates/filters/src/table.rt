@@ -1,15 +1,17 @@
 //! The memory of a filter whose state is a table of bytes.
-ghost use Rattle.std.specs.Prelude.{◌≡◌, ◌≤◌, true, length};
+ghost use Rattle.std.specs.Prelude.{◌≡◌, ◌≤◌, true, length, take};
 ghost use Rattle.passes.specs.Bytes.{bytes};
-ghost use Rattle.filters.specs.Tables.{zeroed, refilled};
+ghost use Rattle.filters.specs.Tables.{zeroed, refilled, bounded, pair_of};
 
 use crate::{Hashing, Settings};
+use passes::identifier::{HashPair, Identifier};
 
 /// The most bytes that a table has.
 pub const MOST_BYTES: usize = 2048;
 
 /// A table of bytes of which the front is in use, as much as the settings say; so it stands in place, since a gate has no heap.
-// Its fields are public: a slice of an array beside a fact cannot be lent for writing, and no proof of that closes.
+// Its fields are public, since its kinds write single bytes of it. A method that lends a part of it for writing gets no proof: "a field of a struct
+// that has a ghost field is lent as `&mut`, where .. the field or one beside it is of a type that has no rule for that yet".
 #[derive(Drop)]
 pub struct Table {
     pub buffer: [u8; MOST_BYTES],
@@ -21,14 +23,16 @@ pub struct Table {
 impl Table {
     ghost use Rattle.filters.specs.Memory.{view_of};
 
-    /// An empty table under these settings.
+    /// An empty table under these settings; a size above the most bytes counts as the most.
     pub fn new(settings: Settings) -> Table
-        requires { settings.size ≤ MOST_BYTES }
-        ensures { view_of result ≡ zeroed settings }
+        ensures { view_of result ≡ zeroed (bounded settings) }
     {
         Table {
             buffer: [0; MOST_BYTES],
-            settings,
+            settings: Settings {
+                size: settings.size.min(MOST_BYTES),
+                ..settings
+            },
         }
     }
 
@@ -39,13 +43,20 @@ impl Table {
         &self.buffer[..self.settings.size]
     }
 
-    /// Takes over bytes as the whole of the table in use.
-    pub fn refill(&mut self, hashing: Hashing, body: &[u8])
-        requires { length body.now ≤ MOST_BYTES }
-        ensures { view_of self.new ≡ refilled hashing body.now }
+    /// The two hashes of an identifier under its settings.
+    pub fn pair_of<I: Identifier>(&self, id: &I) -> HashPair
+        ensures { result ≡ pair_of self.now.settings (I.form id.now) }
     {
-        let size = body.len();
-        self.buffer[0..size].copy_from_slice(body);
+        let at = self.settings.hashing;
+        id.hashes(at.salt, at.level)
+    }
+
+    /// Takes over bytes as the whole of the table in use; of more than the most bytes the front.
+    pub fn refill(&mut self, hashing: Hashing, body: &[u8])
+        ensures { view_of self.new ≡ refilled hashing (take MOST_BYTES body.now) }
+    {
+        let size = body.len().min(MOST_BYTES);
+        self.buffer[0..size].copy_from_slice(&body[0..size]);
         self.settings = Settings { hashing, size };
     }
 }

@@ -4,6 +4,7 @@ ghost use Rattle.levels.specs.Marks.{mark_number, mark_in, side_mark};
 use crate::Side;
 
 /// What a pass counts as while a decider is built: for, against, or left out. Its number is the mark in the work bytes.
+// An `Option<Side>` but for its number: the conversions to and from a byte need a type of this crate.
 #[derive(Clone, Copy, PartialEq, Eq)]
 pub enum Mark {
     Out = 0,

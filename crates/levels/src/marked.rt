@@ -38,7 +38,7 @@ impl<I: Identifier> Marked<'_, I> {
             (λ _. filled F.Filter.kind (F.Filter.view filter.old) 0 (rows I.Identifier.form self.now.list.now self.now.marks.now) ≡ Ok (F.Filter.view filter.new))
             (λ i. filled F.Filter.kind (F.Filter.view filter.old) 0 (rows I.Identifier.form self.now.list.now self.now.marks.now) ≡ Err i) }
     {
-        // By index, which an error names; a mark is compared as the byte that it is, since of the three only "for" matters here.
+        // by index, as in `turn`; an error names it. A mark is compared as the byte that it is, since of the three only "for" matters here.
         for (i, entry) in self.list.iter().enumerate() {
             if self.marks[i] == Mark::For as u8 && !filter.put(&entry.id) {
                 return Err(i);

@@ -5,6 +5,7 @@ ghost use Rattle.levels.specs.Deciders.{Table, table_of, table_in, judged_as, ta
 
 use fields::in_field;
 use fields::reader::Reader;
+use fields::written::header;
 use filters::Filter;
 use refusals::{Reason, Refusal};
 use std::marker::PhantomData;
@@ -33,12 +34,13 @@ impl<F: Filter> Judge for Loadable<F> {
     }
 
     fn judge(hashes: u8, body: &[u8]) -> Result<(), Reason> {
+        // a filter's refusal names no field, so its reason is all of it
         F::judge(hashes, body).map_err(|refusal| refusal.reason)
     }
 }
 
 /// The tag of a level's field.
-pub(crate) fn tag_of(level: u8) -> u8
+pub fn tag_of(level: u8) -> u8
     ensures { result ≡ tag_of level }
 {
     level.saturating_add(16)
@@ -72,8 +74,7 @@ pub(crate) fn write_table<F: Filter>(tag: u8, filter: &F, out: &mut [u8]) -> Opt
     if out.len() < 3 || out.len() - 3 < n {
         return None;
     }
-    let len = ((n & 0xFFFF) as u16).to_be_bytes();
-    out[0..3].copy_from_slice(&[tag, len[0], len[1]]);
+    out[0..3].copy_from_slice(&header(tag, n));
     let _ = filter.save(&mut out[3..]);
     Some(3 + n)
 }

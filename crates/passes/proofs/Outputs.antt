@@ -2,7 +2,7 @@
 use Rattle.std.proofs.Common.{◌≡◌, ℕ, ◌+◌, ◌-◌, ◌<◌, ◌≤◌, true, false, leb, List, [], ◌∷◌, ◌++◌, length, get_or, take, drop, Some, None, Option, sym, refl, ap, ◌∙◌, subst, ⊎_elim, arith}
 use borrow.Rule.Slice.PartMut.{put_mid}
 use Rattle.std.proofs.lemmas.List.{append_assoc, append-nil, length-append, length-drop, drop_at, drop_all, drop-drop, take_at, take_rest, take_more, take-append-drop}
-use Rattle.std.proofs.lemmas.Bool.{cases_Bool, cond-true, cond-false, le-leb, leb-true, leb-false}
+use Rattle.std.proofs.lemmas.Bool.{cases_Bool, cases_lt, cond-true, cond-false, le-leb, lt-leb, leb-true, leb-false}
 use Rattle.passes.specs.Outputs.{written_to, joined}
 
 -- what a writer that wrote something did
@@ -55,6 +55,14 @@ wrote_none bs out now_out e =
     (λ (t : leb (length bs) (length out) ≡ false). leb-false (length bs) (length out) t)
     (cases_Bool (leb (length bs) (length out)))
 
+-- two sizes that fit together or not at all
+pub fit_alike : (a b c d : ℕ) → (a ≤ b → c ≤ d) → (c ≤ d → a ≤ b) → leb a b ≡ leb c d
+fit_alike a b c d f g =
+    ⊎_elim
+    (λ (t : leb a b ≡ true). t ∙ sym (le-leb c d (f (leb-true a b t))))
+    (λ (t : leb a b ≡ false). t ∙ sym (lt-leb c d (let l = leb-false a b t in ⊎_elim (λ (m : d < c). m) (λ (m : c ≤ d). let k = g m in absurd (omega arith)) (cases_lt d c))))
+    (cases_Bool (leb a b))
+
 -- what is left behind the first bytes
 pub behind : (mine out out1 : List ℕ) (n : ℕ) → Wrote mine out out1 n → take (length out1 - n) (drop n out1) ≡ drop (length mine) out
 behind mine out out1 n w =
@@ -102,30 +110,32 @@ module _ {A : Type 0} (f : A → List ℕ) where
 
   module _ (xs : List A) (i : ℕ) (d : A) (l : i < length xs) where
     -- one more in front
-    front_more : joined f (take (i + 1) xs) ≡ joined f (take i xs) ++ f (get_or xs i d)
+    pub front_more : joined f (take (i + 1) xs) ≡ joined f (take i xs) ++ f (get_or xs i d)
     front_more =
         ap (joined f) (take_more xs i d l)
         ∙ joined_append (take i xs) (get_or xs i d ∷ [])
         ∙ ap (λ (t : List ℕ). joined f (take i xs) ++ t) (append-nil (f (get_or xs i d)))
 
-    front_length : length (joined f (take i xs)) + length (f (get_or xs i d)) ≤ length (joined f xs)
+    pub front_length : length (joined f (take i xs)) + length (f (get_or xs i d)) ≤ length (joined f xs)
     front_length =
         let a = ap length front_more ∙ length-append (joined f (take i xs)) (f (get_or xs i d)) in
         let c = ap length (sym (joined_append (take (i + 1) xs) (drop (i + 1) xs)) ∙ ap (joined f) (take-append-drop (i + 1) xs)) in
         let e = length-append (joined f (take (i + 1) xs)) (joined f (drop (i + 1) xs)) in
         omega arith
 
-    module _ (out out1 : List ℕ) (at : ℕ) (v : Wrote (joined f (take i xs)) out out1 at) (fits : length (joined f xs) ≤ length out) where
-      pub next_room : length (f (get_or xs i d)) ≤ length (take (length out1 - at) (drop at out1))
-      next_room =
+    -- one more written behind those in front
+    module _ (out out1 part : List ℕ) (at : ℕ) (v : Wrote (joined f (take i xs)) out out1 at) where
+      pub next_none : length (joined f xs) ≤ length out → ◌≡◌ {A = Option ℕ × List ℕ} (None, part) (written_to (f (get_or xs i d)) (take (length out1 - at) (drop at out1))) → ⊥
+      next_none fits e =
+          let more = f (get_or xs i d) in
+          let room = take (length out1 - at) (drop at out1) in
+          let short = wrote_none more room part e in
           let a = front_length in
           let b = ap length (behind (joined f (take i xs)) out out1 at v) ∙ length-drop (length (joined f (take i xs))) out in
           omega arith
 
-      pub next_wrote : (n : ℕ) (part : List ℕ) → n ≡ length (f (get_or xs i d)) → part ≡ f (get_or xs i d) ++ drop n (take (length out1 - at) (drop at out1)) → Wrote (joined f (take (i + 1) xs)) out (put_mid at (length out1 - at) out1 part) (at + n)
-      next_wrote n part m e =
+      pub next_some : (n : ℕ) → ◌≡◌ {A = Option ℕ × List ℕ} (Some n, part) (written_to (f (get_or xs i d)) (take (length out1 - at) (drop at out1))) → Wrote (joined f (take (i + 1) xs)) out (put_mid at (length out1 - at) out1 part) (at + n)
+      next_some n e =
           let more = f (get_or xs i d) in
-          let room = take (length out1 - at) (drop at out1) in
-          let w : Wrote more room part n = record { size = m; room = next_room; bytes = e ∙ ap (λ (k : ℕ). more ++ drop k room) m } in
           let P : List ℕ → Type 0 = λ bs. Wrote bs out (put_mid at (length out1 - at) out1 part) (at + n) in
-          subst P (sym front_more) (chain (joined f (take i xs)) more out out1 part at n v w)
+          subst P (sym front_more) (chain (joined f (take i xs)) more out out1 part at n v (wrote more (take (length out1 - at) (drop at out1)) part n e))

@@ -1,7 +1,13 @@
 -- The test of a lawful shape decides it; and the pass that a lawful form is read as.
-use Rattle.std.proofs.Common.{◌≡◌, ℕ, zero, suc, ◌+◌, ◌-◌, ◌*◌, ◌/◌, ◌%◌, ◌<◌, ◌≤◌, Bool, true, false, cond, ◌&&◌, eqb, ltb, leb, List, [], ◌∷◌, ◌++◌, length, get_or, take, drop, Decides, sym, refl, ap, ◌∙◌, ⊎_elim, add-one, arith}
+use Rattle.std.proofs.Common.{◌≡◌, ℕ, zero, suc, ◌+◌, ◌-◌, ◌*◌, ◌/◌, ◌%◌, ◌<◌, ◌≤◌, Bool, true, false, cond, ◌&&◌, eqb, ltb, leb, List, [], ◌∷◌, ◌++◌, length, get_or, take, drop, Some, None, Ok, Err, Option, Result, Decides, sym, refl, ap, ◌∙◌, ⊎_elim, add-one, arith}
 use Rattle.std.proofs.lemmas.List.{drop_more, drop_all, take_rest, length-drop, get_or-drop}
 use Rattle.std.proofs.lemmas.Bool.{and_parts, and_from, eqb-true, leb-true, eq-eqb, ne_eqb, le-leb, cases_eq, cond-false, both_ways, true≢false}
+use Rattle.std.proofs.lemmas.Option.{none-some}
+use Rattle.std.specs.Result.{result_ok}
+use Rattle.refusals.specs.declared.Reason.{Reason}
+use Rattle.passes.specs.declared.kind.PassKind.{PassKind}
+use Rattle.passes.specs.declared.kind.PassKind.TheVariants.{Tag, Chip}
+use Rattle.passes.specs.Kinds.{NamesKind, kind_of}
 use Rattle.passes.specs.Bytes.{bytes, be2, be8}
 use Rattle.passes.specs.Forms.{chip_form}
 use Rattle.passes.proofs.Parts.{chip_plain}
@@ -96,6 +102,20 @@ module _ (xs : List ℕ) (low : (i : ℕ) → get_or xs i 0 < 256) where
       let p = chip_plain i serial low_serial (omega arith) (omega arith) in
       cc
 
-pub chip_first : (xs : List ℕ) → Lawful xs → (get_or xs 0 0 ≡ 84 → ⊥) → get_or xs 0 0 ≡ 67
-chip_first xs (tag e b) t = absurd (t refl)
-chip_first xs (chip l h b) t = refl
+tag_no_chip : ◌≡◌ {A = Option PassKind} (Some Tag) (Some Chip) → ⊥
+tag_no_chip e = cc
+
+-- a byte that names the chip passes
+pub chip_named : (n : ℕ) (r : Result PassKind Reason) → NamesKind n r → Some Chip ≡ result_ok r → n ≡ 67
+chip_named n (Err x) h e = absurd (none-some Chip (sym e))
+chip_named n (Ok kind) h e =
+    let named : kind_of n ≡ Some Chip = h ∙ sym e in
+    let chip_or_none : Option PassKind = cond (eqb n 67) (Some Chip) None in
+    ⊎_elim
+    (λ (t : n ≡ 67). t)
+    (λ (t : n ≡ 67 → ⊥).
+    ⊎_elim
+    (λ (u : n ≡ 84). absurd (tag_no_chip (sym (ap kind_of u) ∙ named)))
+    (λ (u : n ≡ 84 → ⊥). absurd (none-some Chip (sym (cond-false (eqb n 67) (Some Chip) None (ne_eqb n 67 t)) ∙ sym (cond-false (eqb n 84) (Some Tag) chip_or_none (ne_eqb n 84 u)) ∙ named)))
+    (cases_eq n 84))
+    (cases_eq n 67)

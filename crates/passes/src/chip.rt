@@ -88,8 +88,9 @@ impl fmt::Display for ChipPass {
     }
 }
 
-/// A chip pass whose serial is borrowed from a message. A call that is given issuer and serial by themselves makes or fills a pass, and judges the
-/// serial first.
+/// A chip pass whose serial is borrowed from a message.
+// Its bound is no invariant, and what stores or writes it takes issuer and serial by themselves: of a slice in a field the check does not know that
+// its numbers are bytes ("no proof of `get_or c.args.chip.serial.now i 0 < 256` was found"), of a parameter it does.
 #[derive(Clone, Copy)]
 pub struct ChipRef<'a> {
     pub(crate) issuer: u16,
@@ -137,7 +138,7 @@ fn write_chip(issuer: u16, serial: &[u8]) -> Form
     let i = issuer.to_be_bytes();
     let k = serial.len().min(20);
     let mut bytes = [0; 23];
-    bytes[0..3].copy_from_slice(&[PassKind::Chip as u8, i[0], i[1]]);
+    bytes[0..3].copy_from_slice(&[PassKind::Chip.into(), i[0], i[1]]);
     bytes[3..3 + k].copy_from_slice(&serial[0..k]);
     Form {
         len: 3 + k.max(1) as u8,

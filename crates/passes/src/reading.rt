@@ -54,7 +54,7 @@ fn issuer_of(bytes: &[u8]) -> u16
     u16::from_be_bytes([bytes[1], bytes[2]])
 }
 
-/// The pass of a written form; none if the bytes have no lawful shape.
+/// The pass of a written form; none if the bytes have no lawful shape. No `TryFrom`: of bytes that are no form there is no more to say.
 pub fn read_form(bytes: &[u8]) -> Option<Pass<'_>>
     ensures test { is_some result ≡ lawful bytes.now }
     ensures form { MatchOption result (Lawful bytes.now → ⊥) (λ p. elim p [ AsTag t ↦ tag_form t ≡ bytes.now | AsChip c ↦ chip_form c.issuer c.serial.now ≡ bytes.now ]) }
@@ -63,16 +63,16 @@ pub fn read_form(bytes: &[u8]) -> Option<Pass<'_>>
         return None;
     }
     let issuer = issuer_of(bytes);
-    // The first of lawful bytes names one of two kinds: a match on the kind would have a third arm that never comes.
-    if bytes[0] == PassKind::Tag as u8 {
-        let number = u64::from_be_bytes([
-            bytes[3], bytes[4], bytes[5], bytes[6], bytes[7], bytes[8], bytes[9], bytes[10],
-        ]);
-        Some(Pass::Tag(Tag { issuer, number }))
-    } else {
-        Some(Pass::Chip(ChipRef {
+    match PassKind::try_from(bytes[0]).ok()? {
+        PassKind::Tag => {
+            let number = u64::from_be_bytes([
+                bytes[3], bytes[4], bytes[5], bytes[6], bytes[7], bytes[8], bytes[9], bytes[10],
+            ]);
+            Some(Pass::Tag(Tag { issuer, number }))
+        }
+        PassKind::Chip => Some(Pass::Chip(ChipRef {
             issuer,
             serial: &bytes[3..],
-        }))
+        })),
     }
 }

@@ -23,7 +23,7 @@ impl Identifier for Tag {
         let n = self.number.to_be_bytes();
         let mut bytes = [0; 23];
         bytes[0..11].copy_from_slice(&[
-            PassKind::Tag as u8,
+            PassKind::Tag.into(),
             i[0],
             i[1],
             n[0],

@@ -8,22 +8,19 @@ ghost use Rattle.publications.specs.Chunks.{same_two};
 
 use levels::tables::Judge;
 use passes::kind::PassKind;
-use publications::CoverageRow;
+use publications::{CoverageRow, MOST_ROWS, ROW_SIZE};
 use refusals::Reason;
 
-/// How many bytes a row has.
-const ROW: usize = 7;
-
 /// The number in two bytes from a place on.
-fn two_at(row: &[u8; ROW], at: usize) -> u16
+fn two_at(row: &[u8; ROW_SIZE], at: usize) -> u16
     requires { at + 2 ≤ length row.now }
     ensures { result ≡ two row.now at }
 {
     u16::from_be_bytes([row[at], row[at + 1]])
 }
 
-/// The row in seven bytes; one that isn't allowed is a bad value.
-fn row_in(row: &[u8; ROW]) -> Result<CoverageRow, Reason>
+/// The row in seven bytes; one that isn't allowed is a bad value. No `TryFrom`: the type is of a crate below.
+fn row_in(row: &[u8; ROW_SIZE]) -> Result<CoverageRow, Reason>
     ensures { MatchResult result (λ r. row_at row.now 0 ≡ Some r) (λ e. (row_at row.now 0 ≡ None) × (e ≡ BadValue)) }
 {
     let kind = PassKind::try_from(row[0])?;
@@ -42,14 +39,14 @@ fn row_in(row: &[u8; ROW]) -> Result<CoverageRow, Reason>
 }
 
 /// Whether two rows have the same kind and issuer: these are numbers of a row, where `==` on a part of it would compare bytes.
-fn same_key(x: &[u8; ROW], y: &[u8; ROW]) -> bool
+fn same_key(x: &[u8; ROW_SIZE], y: &[u8; ROW_SIZE]) -> bool
     ensures { result ≡ same_two x.now y.now }
 {
     x[0] == y[0] && two_at(x, 1) == two_at(y, 1)
 }
 
 /// Whether one of the rows before a row has its kind and issuer.
-fn repeats(before: &[[u8; ROW]], row: &[u8; ROW]) -> bool
+fn repeats(before: &[[u8; ROW_SIZE]], row: &[u8; ROW_SIZE]) -> bool
     ensures { result ≡ list_any (λ x. same_two x row.now) before.now }
 {
     before.iter().any(|other| same_key(other, row))
@@ -59,7 +56,7 @@ fn repeats(before: &[[u8; ROW]], row: &[u8; ROW]) -> bool
 fn judge_rows(bytes: &[u8]) -> Result<(), Reason>
     ensures { JudgesAs result (rows_in bytes.now) }
 {
-    let (rows, _) = bytes.as_chunks::<ROW>();
+    let (rows, _) = bytes.as_chunks::<ROW_SIZE>();
     for (i, row) in rows.iter().enumerate() {
         row_in(row)?;
         if repeats(&rows[..i], row) {
@@ -76,7 +73,7 @@ impl Judge for Coverage {
     ghost table = { coverage_judge };
 
     fn measures(len: usize) -> bool {
-        7 <= len && len <= 448 && len % 7 == 0
+        (ROW_SIZE..=MOST_ROWS * ROW_SIZE).contains(&len) && len % ROW_SIZE == 0
     }
 
     fn judge(_hashes: u8, body: &[u8]) -> Result<(), Reason> {
@@ -88,6 +85,6 @@ impl Judge for Coverage {
 pub fn coverage_row(bytes: &[u8], index: usize) -> Option<CoverageRow>
     ensures { result ≡ (if nat_lt index (length bytes.now / 7) then row_at bytes.now (7 * index) else None) }
 {
-    let (rows, _) = bytes.as_chunks::<ROW>();
+    let (rows, _) = bytes.as_chunks::<ROW_SIZE>();
     row_in(rows.get(index)?).ok()
 }

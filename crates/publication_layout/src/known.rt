@@ -54,11 +54,7 @@ impl<A: Tabled, B: Tabled, G: Tabled> KnownMakes for OneTwoAnd<A, B, G> {
     }
 
     fn judge(&self, head: PublicationHead, reader: &mut Reader<'_>) -> Result<(), Refusal> {
-        let at = Hashing {
-            salt: head.salt,
-            level: 1,
-            hashes: head.hashes,
-        };
+        let at = Hashing::at_top(head.salt, head.hashes);
         // The levels of the makes are types, of which none can be held as a value of one kind: so a test for each.
         if head.make == self.own {
             G::judge(at, reader)

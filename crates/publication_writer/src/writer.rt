@@ -1,13 +1,13 @@
 //! Writing a publication into an output lent by the caller.
-ghost use Rattle.std.specs.Prelude.{◌≡◌, ℕ, ◌+◌, ◌*◌, ◌≤◌, List, ◌++◌, length, drop, Some, nat_le};
+ghost use Rattle.std.specs.Prelude.{◌≡◌, ℕ, ◌+◌, ◌*◌, ◌≤◌, List, ◌++◌, length, drop, nat_le};
 ghost use Rattle.passes.specs.Outputs.{written_to};
 ghost use Rattle.publications.specs.Publications.{head_field, row_bytes, rows_bytes, coverage_field, published};
 ghost use Rattle.publications.specs.Layout.{WriterLaw};
 
 use fields::checks::seal;
-use fields::written::write_each;
+use fields::written::{header, room_left, write_each};
 use levels::decider::{Decider, Tabled};
-use publications::{COVERAGE, CoverageRow, HEAD, PublicationHead};
+use publications::{COVERAGE, CoverageRow, HEAD, PublicationHead, ROW_SIZE};
 
 /// Writes the field of the head.
 fn write_head(head: PublicationHead, out: &mut [u8])
@@ -33,13 +33,12 @@ fn write_head(head: PublicationHead, out: &mut [u8])
 }
 
 /// Writes the field of the coverage, and says how many bytes it has.
-fn write_coverage(rows: &[CoverageRow], out: &mut [u8]) -> usize
+fn write_coverage(rows: &[CoverageRow], out: &mut [u8]) -> Option<usize>
     requires { length (coverage_field rows.now) ≤ length out.old }
-    ensures { (Some result, out.new) ≡ written_to (coverage_field rows.now) out.old }
+    ensures { (result, out.new) ≡ written_to (coverage_field rows.now) out.old }
 {
-    let len = (((rows.len() & 0xFFFF) * 7 & 0xFFFF) as u16).to_be_bytes();
-    out[0..3].copy_from_slice(&[COVERAGE, len[0], len[1]]);
-    3 + write_each(rows, &mut out[3..])
+    out[0..3].copy_from_slice(&header(COVERAGE, ROW_SIZE * rows.len()));
+    Some(3 + write_each(rows, &mut out[3..])?)
 }
 
 // Rows and levels are lent by a caller who holds them apart: a struct of both would be made for one call.
@@ -47,15 +46,10 @@ fn write_coverage(rows: &[CoverageRow], out: &mut [u8]) -> usize
 fn has_room<D: Decider>(rows: &[CoverageRow], levels: &D, room: usize) -> bool
     ensures { (h : PublicationHead) → result ≡ nat_le (length (published h rows.now (D.Decider.decider.saved 1 (D.Decider.state levels.now)))) room }
 {
-    let n = rows.len();
-    if n > room / 7 {
+    let Some(left) = room_left(rows, room) else {
         return false;
-    }
-    let left = room - 7 * n;
-    if left < 22 {
-        return false;
-    }
-    levels.fits(1, left - 22)
+    };
+    left >= 22 && levels.fits(1, left - 22)
 }
 
 /// Writes a publication that fits, and says how many bytes it has.
@@ -69,7 +63,7 @@ fn fill_publication<D: Decider>(
     ensures { (result, out.new) ≡ written_to (published head rows.now (D.Decider.decider.saved 1 (D.Decider.state levels.now))) out.old }
 {
     write_head(head, out);
-    let start = 12 + write_coverage(rows, &mut out[12..]);
+    let start = 12 + write_coverage(rows, &mut out[12..])?;
     let end = start + levels.save(1, &mut out[start..])?;
     seal(end, out)
 }

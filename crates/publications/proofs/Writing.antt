@@ -1,12 +1,12 @@
 -- The fields of a publication written one behind the other.
-use Rattle.std.proofs.Common.{◌≡◌, ℕ, ◌+◌, ◌-◌, ◌*◌, ◌/◌, ◌%◌, ◌<◌, ◌≤◌, true, false, leb, List, [], ◌∷◌, ◌++◌, length, take, drop, Some, None, Option, sym, refl, ap, ◌∙◌, subst, ⊎_elim, arith}
+use Rattle.std.proofs.Common.{◌≡◌, ℕ, ◌+◌, ◌-◌, ◌*◌, ◌/◌, ◌%◌, ◌<◌, ◌≤◌, false, leb, List, [], ◌∷◌, ◌++◌, length, take, drop, Some, None, Option, sym, refl, ap, ◌∙◌, subst, ⊎_elim, arith}
 use lib.Bits.{bit_and}
 use borrow.Rule.Slice.PartMut.{put_mid}
 use Rattle.std.proofs.lemmas.Nat.{and_mask}
 use Rattle.std.proofs.lemmas.List.{append_assoc, length-append}
-use Rattle.std.proofs.lemmas.Bool.{cases_Bool, cases_lt, cond-false, le-leb, lt-leb, leb-true, leb-false}
+use Rattle.std.proofs.lemmas.Bool.{cases_lt, cond-false, lt-leb}
 use Rattle.passes.specs.Outputs.{written_to}
-use Rattle.passes.proofs.Outputs.{Wrote, wrote, wrote_to, chain}
+use Rattle.passes.proofs.Outputs.{Wrote, wrote, wrote_to, fit_alike, chain}
 use Rattle.fields.specs.Reading.{check_field, checked}
 use Rattle.fields.specs.Sealing.{sealed}
 use Rattle.fields.proofs.Readback.{length_field, check_length}
@@ -31,50 +31,19 @@ published_length h rs tables =
     let f : length (head_field h) ≡ 12 = refl in
     omega arith
 
+-- whether a publication fits, under any head
 module _ (h : PublicationHead) (rs : List CoverageRow) (tables : List ℕ) (room : ℕ) where
-  pub no_room : room < 22 + 7 * length rs → false ≡ leb (length (published h rs tables)) room
-  no_room l = let a = published_length h rs tables in sym (lt-leb (length (published h rs tables)) room (omega arith))
+  pub no_room : room < 22 + length (rows_bytes rs) → false ≡ leb (length (published h rs tables)) room
+  no_room l =
+      let a = published_length h rs tables in
+      let b = rows_length rs in
+      sym (lt-leb (length (published h rs tables)) room (omega arith))
 
-  pub some_room : (left : ℕ) → left + 22 + 7 * length rs ≡ room → leb (length tables) left ≡ leb (length (published h rs tables)) room
+  pub some_room : (left : ℕ) → left + 22 + length (rows_bytes rs) ≡ room → leb (length tables) left ≡ leb (length (published h rs tables)) room
   some_room left e =
       let a = published_length h rs tables in
-      ⊎_elim
-      (λ (t : leb (length tables) left ≡ true). let p = leb-true (length tables) left t in t ∙ sym (le-leb (length (published h rs tables)) room (omega arith)))
-      (λ (t : leb (length tables) left ≡ false). let p = leb-false (length tables) left t in t ∙ sym (lt-leb (length (published h rs tables)) room (omega arith)))
-      (cases_Bool (leb (length tables) left))
-
--- seven times the low sixteen bits have the same low sixteen bits
-low_seven : (n : ℕ) → (n % 65536 * 7) % 65536 ≡ (7 * n) % 65536
-low_seven n =
-    let q = n / 65536 in
-    let s = (n % 65536 * 7) / 65536 in
-    let w = (7 * n) / 65536 in
-    ⊎_elim
-    (λ (l : 7 * (n / 65536) + (n % 65536 * 7) / 65536 < (7 * n) / 65536). absurd (omega arith))
-    (λ (l : (7 * n) / 65536 ≤ 7 * (n / 65536) + (n % 65536 * 7) / 65536).
-    ⊎_elim
-    (λ (m : (7 * n) / 65536 < 7 * (n / 65536) + (n % 65536 * 7) / 65536). absurd (omega arith))
-    (λ (m : 7 * (n / 65536) + (n % 65536 * 7) / 65536 ≤ (7 * n) / 65536). omega arith)
-    (cases_lt ((7 * n) / 65536) (7 * (n / 65536) + (n % 65536 * 7) / 65536)))
-    (cases_lt (7 * (n / 65536) + (n % 65536 * 7) / 65536) ((7 * n) / 65536))
-
-high_byte : (x l : ℕ) → x ≡ l % 65536 → x / 256 % 256 ≡ l / 256 % 256
-high_byte x l e = omega arith
-
-low_byte : (x l : ℕ) → x ≡ l % 65536 → x % 256 ≡ l % 256
-low_byte x l e = omega arith
-
--- the header of the coverage, from the low sixteen bits of its length
-pub cover_header : (rs : List CoverageRow) (n : ℕ) (first : List ℕ) → n ≡ length rs → first ≡ 0x02 ∷ (bit_and (bit_and n 65535 * 7) 65535 / 256 % 256) ∷ (bit_and (bit_and n 65535 * 7) 65535 % 256) ∷ [] → first ≡ 0x02 ∷ (length (rows_bytes rs) / 256 % 256) ∷ (length (rows_bytes rs) % 256) ∷ []
-cover_header rs n first e f =
-    let l = rows_length rs in
-    let m = and_mask n 16 in
-    let k = and_mask (bit_and n 65535 * 7) 16 in
-    let o = low_seven n in
-    let a : bit_and (bit_and n 65535 * 7) 65535 ≡ length (rows_bytes rs) % 65536 = k ∙ ap (λ (x : ℕ). (x * 7) % 65536) m ∙ o ∙ ap (λ (x : ℕ). (7 * x) % 65536) e ∙ ap (λ (x : ℕ). x % 65536) (sym l) in
-    let b : bit_and (bit_and n 65535 * 7) 65535 / 256 % 256 ≡ length (rows_bytes rs) / 256 % 256 = high_byte _ (length (rows_bytes rs)) a in
-    let c : bit_and (bit_and n 65535 * 7) 65535 % 256 ≡ length (rows_bytes rs) % 256 = low_byte _ (length (rows_bytes rs)) a in
-    cc
+      let b = rows_length rs in
+      fit_alike (length tables) left (length (published h rs tables)) room (λ l. omega arith) (λ l. omega arith)
 
 module _ (rs : List CoverageRow) (out out1 first : List ℕ) (fits : length (coverage_field rs) ≤ length out) (e : out1 ≡ first ++ drop 3 out) (f : first ≡ 0x02 ∷ (length (rows_bytes rs) / 256 % 256) ∷ (length (rows_bytes rs) % 256) ∷ []) where
   three : List ℕ

@@ -13,6 +13,12 @@ pub const HEAD: u8 = 0x01;
 /// The tag of the field of the coverage.
 pub const COVERAGE: u8 = 0x02;
 
+/// How many bytes a coverage row has.
+pub const ROW_SIZE: usize = 7;
+
+/// The most coverage rows of a publication.
+pub const MOST_ROWS: usize = 64;
+
 /// A coverage row: the issue days of an issuer's passes of a kind that are known, from the first to the last.
 #[derive(Clone, Copy)]
 pub struct CoverageRow {
@@ -36,14 +42,17 @@ impl Written for CoverageRow {
     ghost bytes = { row_bytes };
 
     fn size(&self) -> usize {
-        7
+        ROW_SIZE
     }
 
-    fn write(&self, out: &mut [u8]) {
+    fn write(&self, out: &mut [u8]) -> Option<usize> {
+        if out.len() < ROW_SIZE {
+            return None;
+        }
         let issuer = self.issuer.to_be_bytes();
         let first = self.first.to_be_bytes();
         let last = self.last.to_be_bytes();
-        out[0..7].copy_from_slice(&[
+        out[0..ROW_SIZE].copy_from_slice(&[
             self.kind.into(),
             issuer[0],
             issuer[1],
@@ -52,6 +61,7 @@ impl Written for CoverageRow {
             last[0],
             last[1],
         ]);
+        Some(ROW_SIZE)
     }
 }
 
@@ -66,6 +76,7 @@ pub struct PublicationHead {
 }
 
 /// A publication that was read: its head, the bytes of its coverage rows, and the fields of its tables, as parts of the input.
+// The rows stay bytes, as the input has them, since nothing is copied; `coverage_row` gives one.
 #[derive(Clone, Copy)]
 pub struct Publication<'a> {
     pub head: PublicationHead,

@@ -78,6 +78,7 @@ impl From<Reason> for u8 {
 }
 
 /// A refusal: the reason, the tag of the field at fault and its place, each 0 if there is none.
+// No `Option`: a refusal is three numbers wherever it is shown, and of bytes left it has a place without a tag.
 #[derive(Clone, Copy)]
 pub struct Refusal {
     pub reason: Reason,

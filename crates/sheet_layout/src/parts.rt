@@ -13,7 +13,7 @@ use passes::reading::is_lawful;
 use refusals::{Reason, Refusal};
 use sheets::{HEAD, SheetHead, SheetWord, Side, WORD};
 
-/// The head in a body of 7 bytes.
+/// The head in a body of 7 bytes. No `TryFrom`: the type is of a crate below.
 fn head_in(body: &[u8]) -> Result<SheetHead, Reason>
     requires { 7 ≤ length body.now }
     ensures { result ≡ head_in body.now }

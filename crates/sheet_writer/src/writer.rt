@@ -8,21 +8,16 @@ ghost use Rattle.sheets.specs.Stages.{word_of, sheet_of};
 ghost use Rattle.sheets.specs.Layout.{LayoutLaw};
 
 use fields::checks::seal;
-use fields::written::write_each;
+use fields::written::{room_left, write_each};
 use sheets::{HEAD, SheetHead, SheetWord};
 
 /// Whether a sheet with these words fits into so many bytes, under any head.
 fn has_room(words: &[SheetWord<'_>], room: usize) -> bool
     ensures { (h : SheetHead) → result ≡ nat_le (length (writes (sheet_of h words.now))) room }
 {
-    let mut left = room;
-    'words: for word in words {
-        let n = word.form.len();
-        if left < 4 || left - 4 < n {
-            return false;
-        }
-        left -= 4 + n;
-    }
+    let Some(left) = room_left(words, room) else {
+        return false;
+    };
     left >= 17
 }
 
@@ -44,7 +39,7 @@ fn fill_sheet(head: SheetHead, words: &[SheetWord<'_>], out: &mut [u8]) -> Optio
     ensures { (result, out.new) ≡ written_to (writes (sheet_of head words.now)) out.old }
 {
     write_head(head, out);
-    let end = 10 + write_each(words, &mut out[10..]);
+    let end = 10 + write_each(words, &mut out[10..])?;
     seal(end, out)
 }
 

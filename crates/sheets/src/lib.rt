@@ -6,7 +6,7 @@ ghost use Rattle.sheets.specs.Sides.{side_byte, NamesSide};
 ghost use Rattle.sheets.specs.Sheets.{word_field};
 ghost use Rattle.sheets.specs.Stages.{word_of};
 
-use fields::written::Written;
+use fields::written::{Written, header};
 use refusals::Reason;
 use std::fmt;
 
@@ -75,15 +75,20 @@ impl Written for SheetWord<'_> {
         4 + self.form.len()
     }
 
-    fn write(&self, out: &mut [u8]) {
+    fn write(&self, out: &mut [u8]) -> Option<usize> {
         let n = self.form.len();
-        let len = (((1 + n) & 0xFFFF) as u16).to_be_bytes();
-        out[0..4].copy_from_slice(&[WORD, len[0], len[1], self.side.into()]);
+        if out.len() < 4 + n {
+            return None;
+        }
+        let [tag, high, low] = header(WORD, 1 + n);
+        out[0..4].copy_from_slice(&[tag, high, low, self.side.into()]);
         out[4..4 + n].copy_from_slice(self.form);
+        Some(4 + n)
     }
 }
 
 /// What a field of a sheet holds.
+// The end is a field, the check, which is read and judged as the others are: so a case, and no `None`.
 #[derive(Clone, Copy)]
 pub enum SheetField<'a> {
     Head(SheetHead),

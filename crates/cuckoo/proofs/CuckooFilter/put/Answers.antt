@@ -11,9 +11,9 @@ pub returns : goal.returns
 returns g c =
     let v = view_of c.args.self.now.table in
     let mate = partner (buckets v.settings) in
-    let h = c.hashes.result in
+    let h = c.pair_of.result in
     c.store.ensures
     ∙ ap (λ (i : ℕ). after_try (stored mate v.table i c.place-place.result.fingerprint) v) c.place-place.ensures.is.0
     ∙ ap (λ (f : ℕ). after_try (stored mate v.table (bucket_of v.settings h) f) v) c.place-place.ensures.is.1
-    ∙ ap (λ (h : HashPair). after_try (stored_pair v h) v) c.hashes.ensures
+    ∙ ap (λ (h : HashPair). after_try (stored_pair v h) v) c.pair_of.ensures
     ∙ try_put cuckoo_scheme v (g.I.Identifier.form c.args.id.now)

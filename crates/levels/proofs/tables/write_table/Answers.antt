@@ -1,6 +1,5 @@
 use Rattle.std.proofs.Common.{ℕ, ◌+◌, ◌-◌, ◌/◌, ◌%◌, List, [], ◌∷◌, ◌++◌, length, take, drop, Some, Option, refl, ap, ◌∙◌, arith, length-drop}
 use Rattle.passes.proofs.Outputs.{Wrote, wrote_fits, wrote_to as writes, chain, behind}
-use Rattle.levels.proofs.Writing.{header_bytes}
 use borrow.Rule.Slice.PartMut.{put_mid}
 use Rattle.levels.proofs.tables.write_table.Goals as goal
 
@@ -11,7 +10,7 @@ returns g c =
     let saved = g.F.Filter.kind.saved (g.F.Filter.view c.args.filter.now) in
     let n = c.saved_len-n.result in
     let three = tag ∷ (length saved / 256 % 256) ∷ (length saved % 256) ∷ [] in
-    let head = header_bytes tag n saved c.copy_from_slice.new.self c.saved_len-n.ensures (simp c.to_be_bytes-len.ensures at c.copy_from_slice.ensures.after) in
+    let head = c.copy_from_slice.ensures.after ∙ c.header.ensures ∙ ap (λ (k : ℕ). tag ∷ (k / 256 % 256) ∷ (k % 256) ∷ []) c.saved_len-n.ensures in
     let out1 = c.copy_from_slice.new.self ++ drop 3 out in
     let first : Wrote three out out1 3 = record { size = refl; room = omega (arith, c.if-out-lt3.false); bytes = ap (λ (h : List ℕ). h ++ drop 3 out) head } in
     let left = behind three out out1 3 first in

@@ -8,4 +8,4 @@ returns g c =
     let tables = g.D.Decider.decider.saved 1 (g.D.Decider.state c.args.levels.now) in
     let out = c.args.out.now in
     let out1 = c.write_head.new.out in
-    publication_wrote h rs tables out out1 c.requires c.write_head.ensures c.write_coverage-start.new.out c.write_coverage-start.result c.write_coverage-start.ensures c.save.new.out c.in_ok-end.field-0 c.in_ok-end.ensures c.seal.result c.seal.new.out c.seal.ensures
+    publication_wrote h rs tables out out1 c.requires c.write_head.ensures c.write_coverage.new.out c.in_ok-start.field-0 c.in_ok-start.ensures c.save.new.out c.in_ok-end.field-0 c.in_ok-end.ensures c.seal.result c.seal.new.out c.seal.ensures
