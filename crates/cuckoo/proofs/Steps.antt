@@ -3,8 +3,9 @@ use Rattle.std.proofs.Common.{◌≡◌, ℕ, zero, suc, ◌+◌, ◌-◌, ◌*�
 use Rattle.std.specs.Option.{option_map}
 use Rattle.std.specs.List.{list_any, position, position_from, slice_range}
 use Rattle.std.proofs.Math.Seq.{drop-cons, take-set-lt}
-use Rattle.std.proofs.lemmas.List.{get_or-take}
-use Rattle.std.proofs.lemmas.Bool.{cases_Bool}
+use borrow.Rule.Slice.PartMut.{mid_of, put_mid, mid_len, put_same, set_mid_at}
+use Rattle.std.proofs.lemmas.List.{get_or-take, get_or-drop}
+use Rattle.std.proofs.lemmas.Bool.{cases_Bool, cases_eq}
 use Rattle.std.proofs.lemmas.Iterator.Adapters.{position_from-zero}
 use Rattle.std.proofs.lemmas.List.Quantifiers.{position-Some}
 use Rattle.filters.specs.declared.Settings.{Settings}
@@ -62,18 +63,18 @@ unfolding put_into
 into_empty t c zero f l e = absurd (omega arith)
 into_empty t c (suc k) f l e = rw (eq-eqb (get_or t c 0) 0 e)
 
-pub into_end : (t : List ℕ) (c f k : ℕ) → 4 ≤ k → put_into t c (4 - k) f ≡ None
+into_end : (t : List ℕ) (c f k : ℕ) → 4 ≤ k → put_into t c (4 - k) f ≡ None
 unfolding put_into
 into_end t c f k l = let z : 4 - k ≡ 0 = omega arith in rw z
 
 -- cell k of the bucket at c, in the front of a table
 module _ (size : ℕ) (table : List ℕ) (c k f : ℕ) (few : k < 4) (low : c + k < size) where
-  pub into_here : get_or table (c + k) 0 ≡ 0 → put_into (take size table) (c + k) (4 - k) f ≡ Some (take size (set table (c + k) f))
+  into_here : get_or table (c + k) 0 ≡ 0 → put_into (take size table) (c + k) (4 - k) f ≡ Some (take size (set table (c + k) f))
   into_here e =
       into_empty (take size table) (c + k) (4 - k) f (omega arith) (get_or-take size table (c + k) 0 low ∙ e)
       ∙ ap Some (sym (take-set-lt size table (c + k) f low))
 
-  pub into_next : (get_or table (c + k) 0 ≡ 0 → ⊥) → put_into (take size table) (c + k) (4 - k) f ≡ put_into (take size table) (c + (k + 1)) (4 - (k + 1)) f
+  into_next : (get_or table (c + k) 0 ≡ 0 → ⊥) → put_into (take size table) (c + k) (4 - k) f ≡ put_into (take size table) (c + (k + 1)) (4 - (k + 1)) f
   into_next e =
       let a : c + k + 1 ≡ c + (k + 1) = omega arith in
       let b : 4 - k - 1 ≡ 4 - (k + 1) = omega arith in
@@ -127,7 +128,56 @@ module _ (s : Settings) (ok : cuckoo_allows s.size s.hashing.hashes ≡ true) (t
   pub cell_of : (k : ℕ) → k < 4 → 4 * i + k < s.size
   cell_of k few = let r = ranges s.size s.hashing.hashes ok in omega arith
 
+  -- so does the bucket, and it can be lent
+  pub bucket_fits : (4 * i + 4 ≤ s.size) × (4 * i + 4 ≤ length table) × (length (mid_of (4 * i) (4 * i + 4 - 4 * i) table) ≡ 4)
+  bucket_fits =
+      let r = ranges s.size s.hashing.hashes ok in
+      let room : 4 * i + 4 ≤ length table = omega arith in
+      (omega arith, room, mid_len (4 * i) (4 * i + 4) table room ∙ omega arith)
+
 -- a kick in the front of a table
 pub kick_in_front : (mate : ℕ → ℕ → ℕ) (size n i f j g : ℕ) (table : List ℕ) → n < 64 → 4 * i + n % 4 < size → (j ≡ mate i (get_or table (4 * i + n % 4) 0)) × (g ≡ get_or table (4 * i + n % 4) 0) → Kick mate n i f j g (take size table) (take size (set table (4 * i + n % 4) f))
 kick_in_front mate size n i f j g table below low at =
     record { below = below; out = at.1 ∙ sym (get_or-take size table (4 * i + n % 4) 0 low); to = at.0 ∙ ap (mate i) (sym at.1); left = take-set-lt size table (4 * i + n % 4) f low }
+
+-- no one of the first k cells is empty
+abbrev pub Full : List ℕ → ℕ → Type 0
+Full cells k = (j : ℕ) → j < k → get_or cells j 0 ≡ 0 → ⊥
+
+pub full_next : (cells : List ℕ) (k : ℕ) → Full cells k → (get_or cells k 0 ≡ 0 → ⊥) → Full cells (k + 1)
+full_next cells k e n j l =
+    ⊎_elim
+    (λ (z : j ≡ k). λ h. n (ap (λ (m : ℕ). get_or cells m 0) (sym z) ∙ h))
+    (λ (z : j ≡ k → ⊥). e j (omega arith))
+    (cases_eq j k)
+
+-- four cells of a table from c on, lent
+module _ (table : List ℕ) (c : ℕ) (cells : List ℕ) (lent : cells ≡ mid_of c (c + 4 - c) table) where
+  pub lent_back : put_mid c (c + 4 - c) table cells ≡ table
+  lent_back = ap (put_mid c (c + 4 - c) table) lent ∙ put_same c (c + 4 - c) table
+
+  pub lent_set : (k f : ℕ) → c + 4 ≤ length table → k < 4 → put_mid c (c + 4 - c) table (set cells k f) ≡ set table (c + k) f
+  lent_set k f long few =
+      let l = mid_len c (c + 4) table long in
+      ap (λ (t : List ℕ). put_mid c (c + 4 - c) table (set t k f)) lent ∙ set_mid_at c (c + 4 - c) k table f (omega arith)
+
+  cell_at : (k : ℕ) → k < 4 → get_or table (c + k) 0 ≡ get_or cells k 0
+  cell_at k few =
+      sym (get_or-drop c table k 0)
+      ∙ sym (get_or-take (c + 4 - c) (drop c table) k 0 (omega arith))
+      ∙ ap (λ (t : List ℕ). get_or t k 0) (sym lent)
+
+  module _ (size f : ℕ) (low : c + 4 ≤ size) where
+    into_walked : (k : ℕ) → k ≤ 4 → Full cells k → put_into (take size table) c 4 f ≡ put_into (take size table) (c + k) (4 - k) f
+    into_walked zero l e = let z : c + 0 ≡ c = omega arith in rw z refl
+    into_walked (suc k) l e =
+        let z : k + 1 ≡ suc k = omega arith in
+        into_walked k (omega arith) (λ j m. e j (omega arith))
+        ∙ into_next size table c k f (omega arith) (omega arith) (λ h. e k (omega arith) (sym (cell_at k (omega arith)) ∙ h))
+        ∙ ap (λ (m : ℕ). put_into (take size table) (c + m) (4 - m) f) z
+
+    pub into_first : (k : ℕ) → k < 4 → Full cells k → get_or cells k 0 ≡ 0 → put_into (take size table) c 4 f ≡ Some (take size (set table (c + k) f))
+    into_first k few e h = into_walked k (omega arith) e ∙ into_here size table c k f few (omega arith) (cell_at k few ∙ h)
+
+    pub into_none : Full cells 4 → put_into (take size table) c 4 f ≡ None
+    into_none e = into_walked 4 (omega arith) e ∙ into_end (take size table) (c + 4) f 4 (omega arith)

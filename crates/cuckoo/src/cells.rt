@@ -120,11 +120,10 @@ impl Cuckoo {
                 fingerprint: kicked,
             });
             // The lowest empty cell ends the search from within the walk over the bucket's cells: the project has such a search end at a label.
-            // By index: a part of the table cannot be lent for writing (`Table` says why).
-            for k in 0..BUCKET_SIZE {
-                let cell = BUCKET_SIZE * at.bucket + k;
-                if self.table.buffer[cell] == 0 {
-                    self.table.buffer[cell] = at.fingerprint;
+            let first = BUCKET_SIZE * at.bucket;
+            for cell in &mut self.table.buffer[first..first + BUCKET_SIZE] {
+                if *cell == 0 {
+                    *cell = at.fingerprint;
                     found = true;
                     break 'search;
                 }

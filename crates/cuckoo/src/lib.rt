@@ -36,8 +36,8 @@ impl Filter for Cuckoo {
 
     ghost sound = { λ c. cuckoo_sound c.table.settings c.table.buffer c.table.real.0 c.table.real.1 c.allowed };
 
-    // From here to `take_over` the kinds over a table are alike but for sizes. A trait between, with one impl of `Filter` for all that have it,
-    // would ask six members of each and have nine of its own: for two kinds no fewer than these.
+    // From here to `take_over` the kinds over a table are alike but for sizes. A trait of kinds over a table, with one impl of `Filter` for all of
+    // them, is no shorter for two: each would give that trait its sizes, its table, its put and its answer, and the impl hand on all ten calls.
     fn blank() -> Cuckoo {
         let settings = Settings {
             hashing: Hashing::FIRST,

@@ -1,3 +1,2 @@
-pub mod Loads
 pub mod Reach
 pub mod Turned

@@ -7,5 +7,6 @@ pub mod Makes
 pub mod Passes
 pub mod Registers
 pub mod Saving
+pub mod Shown
 pub mod Sources
 pub mod Spans

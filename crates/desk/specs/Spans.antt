@@ -3,6 +3,8 @@ use Rattle.std.specs.Prelude.{ℕ, ◌+◌, ◌-◌, ◌*◌, min, List, ◌++�
 use Rattle.passes.specs.Bytes.{be8}
 use Rattle.passes.specs.Made.{first_chip, filled}
 use Rattle.passes.specs.declared.chip.ChipPass.{ChipPass}
+use Rattle.passes.specs.declared.kind.PassKind.{PassKind}
+use Rattle.passes.specs.declared.kind.PassKind.TheVariants.{Tag as TagKind, Chip as ChipKind}
 use Rattle.desk.specs.declared.pass.Pass.{Pass}
 use Rattle.desk.specs.declared.pass.Pass.TheVariants.{Tag, Chip}
 use Rattle.desk.specs.declared.span.Span.{Span}
@@ -20,6 +22,10 @@ numbered issuer length number = (filled first_chip issuer (serial_of length numb
 abbrev pub pass_of : SpanKind → ℕ → ℕ → Pass
 pass_of Tags issuer number = Tag (record { issuer = issuer; number = number })
 pass_of (Chips length) issuer number = Chip (numbered issuer length number)
+
+abbrev pub kind_of : SpanKind → PassKind
+kind_of Tags = TagKind
+kind_of (Chips length) = ChipKind
 
 -- the pass at a place, from 0
 abbrev pub pass_at : Span → ℕ → Pass

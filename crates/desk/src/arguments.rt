@@ -1,9 +1,10 @@
 //! What the words behind a command stand for.
+use crate::buffers::LONGEST;
 use crate::faults::Fault;
 use crate::line::Words;
 use crate::numbers::Numbers;
 use crate::pass::Pass;
-use crate::register::Sides;
+use crate::register::{MOST, Sides};
 use crate::span::{Span, SpanKind};
 use levels::Side;
 use passes::chip::ChipPass;
@@ -41,17 +42,17 @@ fn serial_length(word: &[u8]) -> Result<u8, Fault> {
 
 /// How many passes: of a span, or from one blocked pass to the next.
 pub(crate) fn count(word: &[u8]) -> Result<u16, Fault> {
-    within(word, 1, 8192)
+    within(word, 1, MOST as u64)
 }
 
 /// The index of a pass in the register, or a distance in it.
 pub(crate) fn index(word: &[u8]) -> Result<usize, Fault> {
-    within(word, 0, 8192)
+    within(word, 0, MOST as u64)
 }
 
 /// A number of bytes: the length of a buffer, an offset in it, or that of work bytes.
 pub(crate) fn length(word: &[u8]) -> Result<usize, Fault> {
-    within(word, 0, 65_536)
+    within(word, 0, LONGEST as u64)
 }
 
 /// A table size.

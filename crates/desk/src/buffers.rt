@@ -1,6 +1,6 @@
 //! The buffers, and the commands that show them.
-ghost use Rattle.std.specs.Prelude.{◌≡◌, ◌≤◌, [], IfOk, string_bytes, vec_len, nat_lt};
-ghost use Rattle.std.specs.BTreeMap.{keys};
+ghost use Rattle.std.specs.Prelude.{◌≡◌, ◌≤◌, [], IfOk, OnOk, string_bytes, vec_len, nat_lt};
+ghost use Rattle.std.specs.BTreeMap.{keys, insert_entry};
 ghost use Rattle.desk.specs.Faults.{undone};
 
 use crate::faults::Fault;
@@ -34,7 +34,9 @@ impl Buffer {
     }
 
     /// How many bytes it has.
-    pub(crate) fn len(&self) -> usize {
+    pub(crate) fn len(&self) -> usize
+        ensures { result ≡ vec_len self.now.bytes }
+    {
         self.bytes.len()
     }
 }
@@ -76,14 +78,18 @@ impl Buffers {
     }
 
     /// Makes the buffer of its name hold its bytes.
-    pub(crate) fn put(&mut self, buffer: Buffer) -> Result<(), AllocError> {
+    pub(crate) fn put(&mut self, buffer: Buffer) -> Result<(), AllocError>
+        ensures { OnOk result (self.new.all.entries ≡ insert_entry ⟦<String as Ord>⟧.cmp self.old.all.entries buffer.name buffer.bytes) }
+    {
         let Buffer { name, bytes } = buffer;
         self.all.insert(name, bytes)?;
         Ok(())
     }
 
     /// The same, and says so.
-    pub(crate) fn write(&mut self, buffer: Buffer, line: &mut Line<'_>) -> Result<(), AllocError> {
+    pub(crate) fn write(&mut self, buffer: Buffer, line: &mut Line<'_>) -> Result<(), AllocError>
+        ensures { OnOk result (self.new.all.entries ≡ insert_entry ⟦<String as Ord>⟧.cmp self.old.all.entries buffer.name buffer.bytes) }
+    {
         let length = buffer.len();
         line.say(format_args!("buffer {} length {length}", buffer.name))?;
         self.put(buffer)

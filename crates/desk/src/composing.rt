@@ -1,6 +1,7 @@
 //! The commands that compose a sheet by hand.
-ghost use Rattle.std.specs.Prelude.{◌≡◌, true, ◌∷◌, ◌++◌, IfOk};
+ghost use Rattle.std.specs.Prelude.{◌≡◌, ◌+◌, ◌-◌, ◌^◌, min, true, ◌∷◌, ◌++◌, IfOk, OnOk};
 ghost use Rattle.passes.specs.Bytes.{be2};
+ghost use Rattle.desk.specs.Drafts.{more_fields, more_words, more_rows};
 ghost use Rattle.desk.specs.Faults.{undone};
 
 use crate::arguments;
@@ -73,7 +74,9 @@ pub(crate) fn begin(line: &mut Line<'_>) -> Result<Draft, Fault> {
 }
 
 /// A word for the sheet.
-pub(crate) fn word(line: &Line<'_>) -> Result<More, Fault> {
+pub(crate) fn word(line: &Line<'_>) -> Result<More, Fault>
+    ensures { IfOk result (λ m. (more_words m ≡ 1) × (more_rows m ≡ 0)) }
+{
     let [side, form @ ..] = line.words else {
         return Err(Fault::Usage);
     };
@@ -83,7 +86,9 @@ pub(crate) fn word(line: &Line<'_>) -> Result<More, Fault> {
 }
 
 /// A word for each pass of a span.
-pub(crate) fn words(line: &Line<'_>) -> Result<More, Fault> {
+pub(crate) fn words(line: &Line<'_>) -> Result<More, Fault>
+    ensures { IfOk result (λ m. more_rows m ≡ 0) }
+{
     let [side, span @ ..] = line.words else {
         return Err(Fault::Usage);
     };
@@ -94,7 +99,9 @@ pub(crate) fn words(line: &Line<'_>) -> Result<More, Fault> {
 }
 
 /// A coverage row for the sheet.
-pub(crate) fn row(line: &Line<'_>) -> Result<More, Fault> {
+pub(crate) fn row(line: &Line<'_>) -> Result<More, Fault>
+    ensures { IfOk result (λ m. (more_words m ≡ 0) × (more_rows m ≡ 1)) }
+{
     let [kind, issuer, first, last] = line.words else {
         return Err(Fault::Usage);
     };
@@ -107,7 +114,8 @@ pub(crate) fn row(line: &Line<'_>) -> Result<More, Fault> {
 
 /// Adds to the sheet, all or nothing, and says how many words or rows there are.
 pub(crate) fn add(draft: &mut Draft, more: More, line: &mut Line<'_>) -> Result<(), Fault>
-    ensures { undone result ≡ true → draft.new ≡ draft.old }
+    ensures added { OnOk result ((draft.new.bytes.items ≡ draft.old.bytes.items ++ more_fields more) × (draft.new.words ≡ min (draft.old.words + more_words more) (2 ^ 64 - 1)) × (draft.new.rows ≡ min (draft.old.rows + more_rows more) (2 ^ 64 - 1)) × (draft.new.name ≡ draft.old.name)) }
+    ensures kept { undone result ≡ true → draft.new ≡ draft.old }
 {
     draft.add(&more)?;
     match more {

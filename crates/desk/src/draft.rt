@@ -1,5 +1,5 @@
 //! A sheet that is being composed by hand.
-ghost use Rattle.std.specs.Prelude.{◌≡◌, ◌+◌, ◌-◌, ◌^◌, min, true, ◌∷◌, ◌++◌, length, IfOk, vec_len, string_bytes, OnOk, nat_lt};
+ghost use Rattle.std.specs.Prelude.{◌≡◌, ◌+◌, ◌-◌, ◌^◌, min, true, ◌∷◌, ◌++◌, length, IfOk, vec_len, string_bytes, OnOk, nat_lt, false, is_ok};
 ghost use Rattle.passes.specs.Bytes.{be2};
 ghost use Rattle.fields.specs.Reading.{checked};
 ghost use Rattle.desk.specs.Faults.{undone};
@@ -140,9 +140,10 @@ impl Draft {
         })
     }
 
-    /// Adds fields at the end, unless the sheet with its check would be longer than a buffer may be.
+    /// Adds fields at the end and counts their words and rows, unless the sheet with its check would be longer than a buffer may be.
     pub(crate) fn add(&mut self, more: &More) -> Result<(), Fault>
         ensures added { OnOk result ((self.new.bytes.items ≡ self.old.bytes.items ++ more_fields more.now) × (self.new.words ≡ min (self.old.words + more_words more.now) (2 ^ 64 - 1)) × (self.new.rows ≡ min (self.old.rows + more_rows more.now) (2 ^ 64 - 1))) }
+        ensures uncounted { is_ok result ≡ false → (self.new.words ≡ self.old.words) × (self.new.rows ≡ self.old.rows) }
         ensures named { self.new.name ≡ self.old.name }
         ensures judged { undone result ≡ nat_lt 65536 (vec_len self.old.bytes + length (more_fields more.now) + 7) }
         ensures kept { undone result ≡ true → self.new ≡ self.old }

@@ -1,6 +1,8 @@
 //! The kinds of filter, behind one type.
-ghost use Rattle.std.specs.Prelude.{◌≡◌, false, is_ok};
-ghost use Rattle.desk.specs.Filters.{any_view};
+ghost use Rattle.std.specs.Prelude.{◌≡◌, false, IfOk, is_ok, box_value};
+ghost use Rattle.passes.specs.Outputs.{written_to};
+ghost use Rattle.desk.specs.Passes.{pass_form};
+ghost use Rattle.desk.specs.Filters.{any_view, any_settings, any_says, any_saved, any_cleared, any_put, any_load, NamesKind};
 
 use crate::faults::Fault;
 use crate::pass::Pass;
@@ -22,6 +24,8 @@ pub enum Kind {
 
 impl TryFrom<&[u8]> for Kind {
     type Error = Fault;
+
+    ghost try_from_gives = { λ word r. NamesKind word.now r };
 
     fn try_from(word: &[u8]) -> Result<Self, Fault> {
         match word {
@@ -51,7 +55,8 @@ pub enum AnyFilter {
     Exact(Box<ExactList>),
 }
 
-/// Does the same with a filter of whichever kind. The filter itself isn't given out as a `dyn Filter`: the interface is generic.
+/// Does the same with a filter of whichever kind. The filter itself isn't given out as a `dyn Filter`: the interface is generic, and a function that
+/// hands out a `dyn` is refused.
 macro_rules! whichever {
     ($any:expr, $filter:ident => $call:expr) => {
         match $any {
@@ -63,7 +68,9 @@ macro_rules! whichever {
 }
 
 /// A filter that says yes to none, under these settings.
-fn empty<F: Filter + Drop>(heap: Global, settings: Settings) -> Result<Box<F>, Fault> {
+fn empty<F: Filter + Drop>(heap: Global, settings: Settings) -> Result<Box<F>, Fault>
+    ensures { IfOk result (λ b. F.Filter.view (box_value b) ≡ F.Filter.kind.cleared settings) }
+{
     let mut filter = F::blank();
     filter.clear(settings)?;
     Ok(Box::new(heap, filter)?)
@@ -71,7 +78,9 @@ fn empty<F: Filter + Drop>(heap: Global, settings: Settings) -> Result<Box<F>, F
 
 impl AnyFilter {
     /// A filter of a kind that says yes to none, under these settings.
-    pub(crate) fn new(heap: Global, kind: Kind, settings: Settings) -> Result<AnyFilter, Fault> {
+    pub(crate) fn new(heap: Global, kind: Kind, settings: Settings) -> Result<AnyFilter, Fault>
+        ensures { IfOk result (λ f. any_view f ≡ any_cleared kind settings) }
+    {
         match kind {
             Kind::Bloom => Ok(AnyFilter::Bloom(empty(heap, settings)?)),
             Kind::Cuckoo => Ok(AnyFilter::Cuckoo(empty(heap, settings)?)),
@@ -80,28 +89,37 @@ impl AnyFilter {
     }
 
     /// The settings under which it stands.
-    pub(crate) fn settings(&self) -> Settings {
+    pub(crate) fn settings(&self) -> Settings
+        ensures { result ≡ any_settings (any_view self.now) }
+    {
         whichever!(self, filter => filter.settings())
     }
 
     /// Adds a pass, and says whether it was taken.
-    pub(crate) fn put(&mut self, pass: &Pass) -> bool {
+    pub(crate) fn put(&mut self, pass: &Pass) -> bool
+        ensures { (result, any_view self.new) ≡ any_put (any_view self.old) (pass_form pass.now) }
+    {
         whichever!(self, filter => filter.put(pass))
     }
 
     /// Whether it says yes to a pass.
-    pub(crate) fn ask(&self, pass: &Pass) -> bool {
+    pub(crate) fn ask(&self, pass: &Pass) -> bool
+        ensures { result ≡ any_says (any_view self.now) (pass_form pass.now) }
+    {
         whichever!(self, filter => filter.ask(pass))
     }
 
     /// Writes its bytes to the front of the output and says how many; none if they don't fit.
-    pub(crate) fn save(&self, out: &mut [u8]) -> Option<usize> {
+    pub(crate) fn save(&self, out: &mut [u8]) -> Option<usize>
+        ensures { (result, out.new) ≡ written_to (any_saved (any_view self.now)) out.old }
+    {
         whichever!(self, filter => filter.save(out))
     }
 
     /// Takes over saved bytes under its present salt, level and hash count.
     pub(crate) fn load(&mut self, body: &[u8]) -> Result<(), Refusal>
-        ensures { is_ok result ≡ false → any_view self.new ≡ any_view self.old }
+        ensures loaded { (result, any_view self.new) ≡ any_load (any_view self.old) body.now }
+        ensures kept { is_ok result ≡ false → any_view self.new ≡ any_view self.old }
     {
         let hashing = self.settings().hashing;
         whichever!(self, filter => filter.load(hashing, body))

@@ -1,4 +1,4 @@
-ghost use Rattle.std.specs.Prelude.{◌≡◌, ◌+◌, ◌-◌, ◌*◌, ◌^◌, ◌<◌};
+ghost use Rattle.std.specs.Prelude.{◌≡◌, ◌+◌, ◌-◌, ◌*◌, ◌^◌, ◌<◌, is_some, IfSome, nat_lt};
 
 /// Numbers at equal distances: `count` of them from `first` on, none above the largest `u64`.
 #[derive(Drop)]
@@ -11,7 +11,10 @@ pub struct Numbers {
 
 impl Numbers {
     /// The numbers, unless the last is too large.
-    pub(crate) fn new(first: u64, step: u64, count: u16) -> Option<Numbers> {
+    pub(crate) fn new(first: u64, step: u64, count: u16) -> Option<Numbers>
+        ensures judged { is_some result ≡ nat_lt (first + step * (count - 1)) (2 ^ 64) }
+        ensures made { IfSome result (λ n. (n.first ≡ first) × (n.step ≡ step) × (n.count ≡ count)) }
+    {
         let reach = step.checked_mul(count.saturating_sub(1) as u64)?;
         first.checked_add(reach)?;
         Some(Numbers { first, step, count })

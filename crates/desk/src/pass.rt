@@ -1,4 +1,5 @@
-ghost use Rattle.desk.specs.Passes.{pass_form, pass_lawful};
+ghost use Rattle.std.specs.Prelude.{◌≡◌};
+ghost use Rattle.desk.specs.Passes.{pass_form, pass_kind, pass_lawful};
 
 use passes::chip::ChipPass;
 use passes::form::Form;
@@ -16,7 +17,9 @@ pub enum Pass {
 
 impl Pass {
     /// Its kind.
-    pub(crate) fn kind(&self) -> PassKind {
+    pub(crate) fn kind(&self) -> PassKind
+        ensures { result ≡ pass_kind self.now }
+    {
         match self {
             Pass::Tag(_) => PassKind::Tag,
             Pass::Chip(_) => PassKind::Chip,

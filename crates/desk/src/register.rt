@@ -11,7 +11,7 @@ use passes::kind::PassKind;
 use std::alloc::Global;
 
 /// How many passes a register has at most.
-const MOST: usize = 8192;
+pub(crate) const MOST: usize = 8192;
 
 /// The sides of many passes.
 #[derive(Clone, Copy)]

@@ -1,3 +1,6 @@
+ghost use Rattle.std.specs.Prelude.{◌≡◌};
+ghost use Rattle.desk.specs.Shown.{in_sheet};
+
 use levels::Side;
 use std::fmt;
 
@@ -15,7 +18,9 @@ impl<'a> fmt::Display for Hex<'a> {
 }
 
 /// What a sheet says of a pass of this side: blocked is for, good is against. Both types are of crates below, so no `From` can say it here.
-pub(crate) fn in_sheet(side: Side) -> sheets::Side {
+pub(crate) fn in_sheet(side: Side) -> sheets::Side
+    ensures { result ≡ in_sheet side }
+{
     match side {
         Side::For => sheets::Side::Blocked,
         Side::Against => sheets::Side::Good,

@@ -1,5 +1,5 @@
 ghost use Rattle.std.specs.Prelude.{◌≡◌, ◌<◌, ◌≤◌};
-ghost use Rattle.desk.specs.Spans.{numbered, pass_at};
+ghost use Rattle.desk.specs.Spans.{numbered, kind_of, pass_at};
 
 use crate::numbers::Numbers;
 use crate::pass::Pass;
@@ -36,7 +36,9 @@ fn chip_pass(issuer: u16, length: u8, number: u64) -> ChipPass
 
 impl Span {
     /// The span of these numbers.
-    pub(crate) fn new(kind: SpanKind, issuer: u16, numbers: Numbers) -> Span {
+    pub(crate) fn new(kind: SpanKind, issuer: u16, numbers: Numbers) -> Span
+        ensures { (result.kind ≡ kind) × (result.issuer ≡ issuer) × (result.numbers ≡ numbers) }
+    {
         Span {
             kind,
             issuer,
@@ -52,7 +54,9 @@ impl Span {
     }
 
     /// The kind of its passes.
-    pub(crate) fn kind(&self) -> PassKind {
+    pub(crate) fn kind(&self) -> PassKind
+        ensures { result ≡ kind_of self.now.kind }
+    {
         match self.kind {
             SpanKind::Tags => PassKind::Tag,
             SpanKind::Chips(_) => PassKind::Chip,

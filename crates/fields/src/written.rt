@@ -29,6 +29,7 @@ pub fn room_left<W: Written>(things: &[W], room: usize) -> Option<usize>
     ensures { SomeIff result (length (joined W.bytes things.now) ≤ room) (room - length (joined W.bytes things.now)) }
 {
     let mut left = room;
+    // a loop and no `try_fold`: its invariant says what is left
     for thing in things {
         left = left.checked_sub(thing.size())?;
     }

@@ -10,8 +10,8 @@ use passes::identifier::{HashPair, Identifier};
 pub const MOST_BYTES: usize = 2048;
 
 /// A table of bytes of which the front is in use, as much as the settings say; so it stands in place, since a gate has no heap.
-// Its fields are public, since its kinds write single bytes of it. A method that lends a part of it for writing gets no proof: "a field of a struct
-// that has a ghost field is lent as `&mut`, where .. the field or one beside it is of a type that has no rule for that yet".
+// Its fields are public: its kinds read the settings and write single bytes of the buffer. The check does not cover a method that hands out a part of
+// the buffer for writing: "a part of a struct that has a ghost field is returned as `&mut`, where it .. is made a slice".
 #[derive(Drop)]
 pub struct Table {
     pub buffer: [u8; MOST_BYTES],

@@ -26,7 +26,7 @@ pub trait Decider: Sized {
     fn blank() -> Self
         ensures { state result ≡ decider.blank };
 
-    /// The side of an identifier, and the source of the decision: a tuple, as the project has its answers.
+    /// The side of an identifier, and the source of the decision. A decision is a tuple wherever it is given.
     fn ask<I: Identifier>(&self, id: &I) -> (Side, u8)
         ensures { (result.0, result.1) ≡ decider.decides (state self.now) (I.form id.now) };
 

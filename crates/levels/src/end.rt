@@ -49,6 +49,7 @@ impl<F: Exact> Decider for End<F> {
         if !sizes.is_empty() {
             return Err(Reason::BadSetting.into());
         }
+        // the table size of an end, by a number: its name stands in the crate of the exact list, on which levels don't stand
         let settings = Settings {
             hashing: at,
             size: 1536,
@@ -57,6 +58,7 @@ impl<F: Exact> Decider for End<F> {
     }
 
     fn fits(&self, level: u8, room: usize) -> bool {
+        // Header and body fit: one comparison here, in `Level::fits` and in `write_table`, which a call of its own would not make plainer.
         room >= 3 && room - 3 >= self.filter.saved_len()
     }
 

@@ -45,6 +45,7 @@ impl ChipPass {
         ensures after { (result, self.new) ≡ filled self.old issuer serial.now }
         ensures form { is_ok result ≡ true → stored_form self.new ≡ 0x43 ∷ (be2 issuer ++ serial.now) }
     {
+        // The bound is tested here and in `ChipRef::new`, where what follows asks for it: a call would hand on one comparison.
         let k = serial.len();
         if k < 1 || k > 20 {
             return Err(Reason::BadSerial.into());
@@ -89,8 +90,8 @@ impl fmt::Display for ChipPass {
 }
 
 /// A chip pass whose serial is borrowed from a message.
-// Its bound is no invariant, and what stores or writes it takes issuer and serial by themselves: of a slice in a field the check does not know that
-// its numbers are bytes ("no proof of `get_or c.args.chip.serial.now i 0 < 256` was found"), of a parameter it does.
+// That its serial has 1 to 20 bytes is no invariant, and what stores or writes it takes issuer and serial by themselves: of a slice in a field the
+// check does not know that its numbers are bytes ("no proof of `get_or c.args.chip.serial.now i 0 < 256` was found"), of a parameter it does.
 #[derive(Clone, Copy)]
 pub struct ChipRef<'a> {
     pub(crate) issuer: u16,

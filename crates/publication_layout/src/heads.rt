@@ -9,7 +9,7 @@ use filters::allows_hashes;
 use publications::{HEAD, PublicationHead};
 use refusals::{Reason, Refusal};
 
-/// The head in a body of 9 bytes.
+/// The head in a body of 9 bytes. No `TryFrom`: the type is of a crate below, and the makes that are known are given.
 fn head_in<M: KnownMakes>(makes: &M, body: &[u8]) -> Result<PublicationHead, Reason>
     requires { 9 ≤ length body.now }
     ensures { result ≡ head_in (M.makes makes.now) body.now }

@@ -32,7 +32,7 @@ fn write_head(head: PublicationHead, out: &mut [u8])
     ]);
 }
 
-/// Writes the field of the coverage, and says how many bytes it has.
+/// Writes the field of the coverage, which fits, and says how many bytes it has.
 fn write_coverage(rows: &[CoverageRow], out: &mut [u8]) -> Option<usize>
     requires { length (coverage_field rows.now) ≤ length out.old }
     ensures { (result, out.new) ≡ written_to (coverage_field rows.now) out.old }

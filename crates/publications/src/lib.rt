@@ -76,7 +76,7 @@ pub struct PublicationHead {
 }
 
 /// A publication that was read: its head, the bytes of its coverage rows, and the fields of its tables, as parts of the input.
-// The rows stay bytes, as the input has them, since nothing is copied; `coverage_row` gives one.
+// The rows stay bytes, as the input has them, since nothing is copied; `publication_layout::coverage::coverage_row` gives one.
 #[derive(Clone, Copy)]
 pub struct Publication<'a> {
     pub head: PublicationHead,

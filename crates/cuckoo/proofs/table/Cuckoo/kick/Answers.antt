@@ -1,11 +1,12 @@
-use Rattle.std.proofs.Common.{◌≡◌, ℕ, ◌+◌, ◌-◌, ◌*◌, ◌%◌, ◌<◌, Bool, List, set, take, sym, subst, refl, ap, ◌∙◌, arith}
+use Rattle.std.proofs.Common.{◌≡◌, ℕ, ◌+◌, ◌-◌, ◌*◌, ◌%◌, ◌<◌, Bool, true, List, length, Some, set, take, sym, subst, ap, ◌∙◌, arith}
+use Rattle.std.proofs.lemmas.List.{set-get_or}
+use Rattle.passes.specs.Bytes.{bytes}
 use Rattle.filters.specs.Fronts.{set_real}
 use Rattle.filters.specs.Memory.{view_of}
-use Rattle.filters.specs.Tables.{TableView}
-use Rattle.cuckoo.specs.Cells.{partner, put_into, kicked}
+use Rattle.cuckoo.specs.Cells.{partner, kicked}
 use Rattle.cuckoo.specs.Cuckoo.{buckets}
 use Rattle.cuckoo.specs.Tried.{tried}
-use Rattle.cuckoo.proofs.Steps.{cell_of, into_here, into_next, into_end, kick_in_front, kick_found, kick_on, kick_end}
+use Rattle.cuckoo.proofs.Steps.{Full, full_next, lent_back, lent_set, into_first, into_none, bucket_fits, cell_of, kick_in_front, kick_found, kick_on, kick_end}
 use Rattle.cuckoo.proofs.table.Cuckoo.kick.Goals as goal
 
 pub invariant_of-self : goal.invariant_of-self
@@ -13,25 +14,37 @@ invariant_of-self c =
     let me = c.search.self.table in
     ((me.fits, (set_real me.buffer (4 * c.search.at.bucket + c.search.n % 4) c.search.at.fingerprint (omega arith) me.real, tt)), (c.search.self.allowed, tt))
 
-pub invariant_of-self-then-self-cell-eq0 : goal.invariant_of-self-then-self-cell-eq0
-invariant_of-self-then-self-cell-eq0 c =
-    let me = c.loop-k.self.table in
-    ((me.fits, (set_real me.buffer (4 * c.partner-at.result.bucket + c.loop-k.k) c.partner-at.result.fingerprint (omega arith) me.real, tt)), (c.loop-k.self.allowed, tt))
-
-pub loop-k-preserved : goal.loop-k-preserved
-loop-k-preserved c =
-    let me = c.loop-k.self.table in
-    let p = c.partner-at.result in
-    let k = c.loop-k.k in
-    let P : ℕ → Type 0 = λ b. p.bucket < b in
-    let low = subst P (ap buckets (sym c.loop-k.invariant.same)) c.partner-at.ensures.low in
-    let cell = cell_of me.settings c.loop-k.self.allowed me.buffer me.real.0 p.bucket low k c.loop-k-test.true in
+pub loop-cell-preserved : goal.loop-cell-preserved
+loop-cell-preserved c =
+    let cells = c.loop-cell.cell-items in
+    let k = c.loop-cell.cell-index in
+    let same = set-get_or cells k 0 in
     record {
-      same = c.loop-k.invariant.same;
-      cells = c.loop-k.invariant.cells;
-      not_yet = c.loop-k.invariant.not_yet;
-      left = c.loop-k.invariant.left ∙ into_next me.settings.size me.buffer (4 * p.bucket) k p.fingerprint c.loop-k-test.true cell c.if-self-cell-eq0.false;
+      cells = same ∙ c.loop-cell.invariant.cells;
+      not_yet = c.loop-cell.invariant.not_yet;
+      full = subst (λ (l : List ℕ). Full l (k + 1)) (sym same) (full_next cells k c.loop-cell.invariant.full c.if-cell-eq0.false);
     }
+
+pub invariant_of-self-in-loop-cell : goal.invariant_of-self-in-loop-cell
+invariant_of-self-in-loop-cell c =
+    let me = c.search.self.table in
+    let t = set me.buffer (4 * c.search.at.bucket + c.search.n % 4) c.search.at.fingerprint in
+    let real = set_real me.buffer (4 * c.search.at.bucket + c.search.n % 4) c.search.at.fingerprint (omega arith) me.real in
+    let P : List ℕ → Type 0 = λ l. (length l ≡ 2048) × (bytes l ≡ true) in
+    let back = lent_back t (4 * c.partner-at.result.bucket) c.loop-cell.cell-items c.loop-cell.invariant.cells in
+    ((me.fits, (subst P (sym back) real, tt)), (c.search.self.allowed, tt))
+
+pub invariant_of-self-then-cell-eq0 : goal.invariant_of-self-then-cell-eq0
+invariant_of-self-then-cell-eq0 c =
+    let me = c.search.self.table in
+    let p = c.partner-at.result in
+    let k = c.loop-cell.cell-index in
+    let t = set me.buffer (4 * c.search.at.bucket + c.search.n % 4) c.search.at.fingerprint in
+    let real = set_real me.buffer (4 * c.search.at.bucket + c.search.n % 4) c.search.at.fingerprint (omega arith) me.real in
+    let room = bucket_fits me.settings c.search.self.allowed t real.0 p.bucket c.partner-at.ensures.low in
+    let P : List ℕ → Type 0 = λ l. (length l ≡ 2048) × (bytes l ≡ true) in
+    let put = lent_set t (4 * p.bucket) c.loop-cell.cell-items c.loop-cell.invariant.cells k p.fingerprint room.1 (omega (arith, room.2, c.loop-cell-test.true)) in
+    ((me.fits, (subst P (sym put) (set_real t (4 * p.bucket + k) p.fingerprint (omega arith) real), tt)), (c.search.self.allowed, tt))
 
 pub search-preserved : goal.search-preserved
 search-preserved c =
@@ -44,19 +57,21 @@ search-preserved c =
     let mate = partner (buckets s) in
     let cell = cell_of s c.search.self.allowed me.buffer me.real.0 i c.search.invariant.low (n % 4) (omega arith) in
     let kick = kick_in_front mate s.size n i f p.bucket p.fingerprint me.buffer c.search-test.true cell c.partner-at.ensures.is in
-    let u = take s.size (set me.buffer (4 * i + n % 4) f) in
-    let v : TableView = record { settings = s; table = u } in
-    let w = view_of c.loop-k.self.table in
-    let still : w ≡ v = rw (c.loop-k.invariant.same, c.loop-k.invariant.cells) refl in
-    let full = ap (λ (t : List ℕ). put_into t (4 * p.bucket) 4 p.fingerprint) (sym (ap (λ (x : TableView). x.table) still)) ∙ c.loop-k.invariant.left ∙ into_end w.table (4 * p.bucket + c.loop-k.k) p.fingerprint c.loop-k.k c.loop-k-test.false in
+    let t = set me.buffer (4 * i + n % 4) f in
+    let real = set_real me.buffer (4 * i + n % 4) f (omega arith) me.real in
+    let room = bucket_fits s c.search.self.allowed t real.0 p.bucket c.partner-at.ensures.low in
+    let lent = c.loop-cell.invariant.cells in
+    let back = lent_back t (4 * p.bucket) c.loop-cell.cell-items lent in
+    let walked : Full c.loop-cell.cell-items 4 = λ j l. c.loop-cell.invariant.full j (omega (arith, room.2, c.loop-cell-test.false)) in
+    let none = into_none t (4 * p.bucket) c.loop-cell.cell-items lent s.size p.fingerprint room.0 walked in
     record {
-      same = c.loop-k.invariant.same ∙ c.search.invariant.same;
-      low = let P : TableView → Type 0 = λ x. p.bucket < buckets x.settings in subst P (sym still) c.partner-at.ensures.low;
-      not_yet = c.loop-k.invariant.not_yet;
+      same = c.search.invariant.same;
+      low = c.partner-at.ensures.low;
+      not_yet = c.loop-cell.invariant.not_yet;
       kicks =
           c.search.invariant.kicks
-          ∙ kick_on mate n i f p.bucket p.fingerprint (take s.size me.buffer) u kick full
-          ∙ ap (λ (x : TableView). kicked (partner (buckets x.settings)) (64 - (n + 1)) (n + 1) p.bucket p.fingerprint x.table) (sym still);
+          ∙ kick_on mate n i f p.bucket p.fingerprint (take s.size me.buffer) (take s.size t) kick none
+          ∙ ap (λ (l : List ℕ). kicked mate (64 - (n + 1)) (n + 1) p.bucket p.fingerprint (take s.size l)) (sym back);
     }
 
 pub returns-after-search-clause-put : goal.returns-after-search-clause-put
@@ -66,25 +81,25 @@ returns-after-search-clause-put c =
     ∙ kick_end (partner (buckets v.settings)) c.search.n c.search.at.bucket c.search.at.fingerprint v.table c.search-test.false
     ∙ ap (λ (b : Bool). tried b v.table) (sym c.search.invariant.not_yet)
 
-pub returns-then-self-cell-eq0-clause-put : goal.returns-then-self-cell-eq0-clause-put
-returns-then-self-cell-eq0-clause-put c =
+pub returns-then-cell-eq0-clause-put : goal.returns-then-cell-eq0-clause-put
+returns-then-cell-eq0-clause-put c =
     let me = c.search.self.table in
     let s = me.settings in
     let n = c.search.n in
     let i = c.search.at.bucket in
     let f = c.search.at.fingerprint in
     let p = c.partner-at.result in
-    let k = c.loop-k.k in
+    let k = c.loop-cell.cell-index in
     let mate = partner (buckets s) in
     let cell = cell_of s c.search.self.allowed me.buffer me.real.0 i c.search.invariant.low (n % 4) (omega arith) in
     let kick = kick_in_front mate s.size n i f p.bucket p.fingerprint me.buffer c.search-test.true cell c.partner-at.ensures.is in
-    let u = take s.size (set me.buffer (4 * i + n % 4) f) in
-    let v : TableView = record { settings = s; table = u } in
-    let next = c.loop-k.self.table in
-    let w = view_of next in
-    let still : w ≡ v = rw (c.loop-k.invariant.same, c.loop-k.invariant.cells) refl in
-    let P : TableView → Type 0 = λ x. p.bucket < buckets x.settings in
-    let low = subst P (sym still) c.partner-at.ensures.low in
-    let empty = cell_of next.settings c.loop-k.self.allowed next.buffer next.real.0 p.bucket low k c.loop-k-test.true in
-    let filled = ap (λ (t : List ℕ). put_into t (4 * p.bucket) 4 p.fingerprint) (sym (ap (λ (x : TableView). x.table) still)) ∙ c.loop-k.invariant.left ∙ into_here next.settings.size next.buffer (4 * p.bucket) k p.fingerprint c.loop-k-test.true empty c.if-self-cell-eq0.true in
-    c.search.invariant.kicks ∙ kick_found mate n i f p.bucket p.fingerprint (take s.size me.buffer) u kick _ filled
+    let t = set me.buffer (4 * i + n % 4) f in
+    let real = set_real me.buffer (4 * i + n % 4) f (omega arith) me.real in
+    let room = bucket_fits s c.search.self.allowed t real.0 p.bucket c.partner-at.ensures.low in
+    let lent = c.loop-cell.invariant.cells in
+    let few : k < 4 = omega (arith, room.2, c.loop-cell-test.true) in
+    let put = lent_set t (4 * p.bucket) c.loop-cell.cell-items lent k p.fingerprint room.1 few in
+    let filled = into_first t (4 * p.bucket) c.loop-cell.cell-items lent s.size p.fingerprint room.0 k few c.loop-cell.invariant.full c.if-cell-eq0.true in
+    c.search.invariant.kicks
+    ∙ kick_found mate n i f p.bucket p.fingerprint (take s.size me.buffer) (take s.size t) kick _ filled
+    ∙ ap (λ (l : List ℕ). Some (take s.size l)) (sym put)

@@ -1,7 +1,8 @@
-use Rattle.std.proofs.Common.{◌≡◌, ◌+◌, ◌-◌, ◌*◌, ◌<◌, false}
+use Rattle.std.proofs.Common.{◌≡◌, ◌-◌, ◌<◌, false}
 use Rattle.filters.specs.Memory.{view_of}
-use Rattle.cuckoo.specs.Cells.{partner, put_into, kicked}
+use Rattle.cuckoo.specs.Cells.{partner, kicked}
 use Rattle.cuckoo.specs.Cuckoo.{buckets}
+use Rattle.cuckoo.proofs.Steps.{Full}
 use Rattle.cuckoo.proofs.table.Cuckoo.kick.Given as goal
 
 abbrev pub invariant-search : goal.invariant-search
@@ -13,12 +14,10 @@ invariant-search l =
       kicks : kicked (partner (buckets l.initial.self.table.settings)) 64 0 l.initial.at.bucket l.initial.at.fingerprint (view_of l.initial.self.table).table ≡ kicked (partner (buckets l.self.table.settings)) (64 - l.n) l.n l.at.bucket l.at.fingerprint (view_of l.self.table).table;
     }
 
-abbrev pub invariant-loop-k : goal.invariant-loop-k
-invariant-loop-k l =
-    let table = (view_of l.self.table).table in
+abbrev pub invariant-loop-cell : goal.invariant-loop-cell
+invariant-loop-cell l =
     record {
-      same : l.self.table.settings ≡ l.initial.self.table.settings;
-      cells : l.self.table.buffer ≡ l.initial.self.table.buffer;
+      cells : l.cell-items ≡ l.initial.cell-items;
       not_yet : l.found ≡ false;
-      left : put_into table (4 * l.at.bucket) 4 l.at.fingerprint ≡ put_into table (4 * l.at.bucket + l.k) (4 - l.k) l.at.fingerprint;
+      full : Full l.cell-items l.cell-index;
     }
