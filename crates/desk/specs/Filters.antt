@@ -4,6 +4,7 @@ use Rattle.desk.specs.declared.faults.Fault.{Fault}
 use Rattle.desk.specs.declared.faults.Fault.TheVariants.{Usage}
 use Rattle.refusals.specs.declared.Refusal.{Refusal}
 use Rattle.filters.specs.declared.Settings.{Settings}
+use Rattle.filters.specs.Kind.{allowed}
 use Rattle.filters.specs.Answers.{after_put, after_load}
 use Rattle.bloom.specs.Bloom.{BloomView, bloom_view, bloom_kind}
 use Rattle.bloom.specs.declared.table.Bloom.{Bloom as BloomTable}
@@ -12,7 +13,7 @@ use Rattle.cuckoo.specs.declared.table.Cuckoo.{Cuckoo as CuckooTable}
 use Rattle.exact.specs.Exact.{ExactView, exact_view, exact_kind}
 use Rattle.exact.specs.declared.table.ExactList.{ExactList}
 use Rattle.std.specs.Option.{option_map}
-use Rattle.desk.specs.declared.kinds.Kind.{Kind as AKind}
+use Rattle.desk.specs.declared.kinds.Kind.{Kind as FilterKind}
 use Rattle.desk.specs.declared.kinds.Kind.TheVariants.{Bloom as BloomKind, Cuckoo as CuckooKind, Exact as ExactKind}
 use Rattle.desk.specs.declared.kinds.AnyFilter.{AnyFilter}
 use Rattle.desk.specs.declared.kinds.AnyFilter.TheVariants.{Bloom, Cuckoo, Exact}
@@ -53,20 +54,25 @@ any_saved (a_cuckoo v) = cuckoo_kind.saved v
 any_saved (an_exact v) = exact_kind.saved v
 
 -- the word that names a kind
-abbrev pub kind_word : AKind → List ℕ
+abbrev pub kind_word : FilterKind → List ℕ
 kind_word BloomKind = 98 ∷ 108 ∷ 111 ∷ 111 ∷ 109 ∷ []
 kind_word CuckooKind = 99 ∷ 117 ∷ 99 ∷ 107 ∷ 111 ∷ 111 ∷ []
 kind_word ExactKind = 101 ∷ 120 ∷ 97 ∷ 99 ∷ 116 ∷ []
 
 -- the kind that a word names, or that it names none
-abbrev pub NamesKind : List ℕ → Result AKind Fault → Type 0
-NamesKind word r = MatchResult r (λ kind. word ≡ kind_word kind) (λ e. (e ≡ Usage) × ((kind : AKind) → word ≢ kind_word kind))
+abbrev pub NamesKind : List ℕ → Result FilterKind Fault → Type 0
+NamesKind word r = MatchResult r (λ kind. word ≡ kind_word kind) (λ e. (e ≡ Usage) × ((kind : FilterKind) → word ≢ kind_word kind))
 
--- a filter of a kind that was cleared
-abbrev pub any_cleared : AKind → Settings → AnyView
+-- a cleared filter of a kind, and whether its settings are allowed
+abbrev pub any_cleared : FilterKind → Settings → AnyView
 any_cleared BloomKind s = a_bloom (bloom_kind.cleared s)
 any_cleared CuckooKind s = a_cuckoo (cuckoo_kind.cleared s)
 any_cleared ExactKind s = an_exact (exact_kind.cleared s)
+
+abbrev pub any_allows : FilterKind → Settings → Bool
+any_allows BloomKind s = allowed bloom_kind s
+any_allows CuckooKind s = allowed cuckoo_kind s
+any_allows ExactKind s = allowed exact_kind s
 
 -- the answer to a put, and the filter after it
 abbrev pub any_put : AnyView → List ℕ → Bool × AnyView

@@ -11,6 +11,7 @@ abbrev pub pass_form : Pass → List ℕ
 pass_form (Tag t) = tag_form t
 pass_form (Chip c) = stored_form c
 
+-- its kind
 abbrev pub pass_kind : Pass → PassKind
 pass_kind (Tag t) = TagKind
 pass_kind (Chip c) = ChipKind

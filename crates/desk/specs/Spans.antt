@@ -23,6 +23,7 @@ abbrev pub pass_of : SpanKind → ℕ → ℕ → Pass
 pass_of Tags issuer number = Tag (record { issuer = issuer; number = number })
 pass_of (Chips length) issuer number = Chip (numbered issuer length number)
 
+-- the kind of the passes of a span
 abbrev pub kind_of : SpanKind → PassKind
 kind_of Tags = TagKind
 kind_of (Chips length) = ChipKind

@@ -1,5 +1,5 @@
 //! The buffers, and the commands that show them.
-ghost use Rattle.std.specs.Prelude.{◌≡◌, ◌≤◌, [], IfOk, OnOk, string_bytes, vec_len, nat_lt};
+ghost use Rattle.std.specs.Prelude.{◌≡◌, ◌≤◌, [], IfOk, OnOk, OnErr, string_bytes, vec_len, nat_lt};
 ghost use Rattle.std.specs.BTreeMap.{keys, insert_entry};
 ghost use Rattle.desk.specs.Faults.{undone};
 
@@ -79,7 +79,8 @@ impl Buffers {
 
     /// Makes the buffer of its name hold its bytes.
     pub(crate) fn put(&mut self, buffer: Buffer) -> Result<(), AllocError>
-        ensures { OnOk result (self.new.all.entries ≡ insert_entry ⟦<String as Ord>⟧.cmp self.old.all.entries buffer.name buffer.bytes) }
+        ensures written { OnOk result (self.new.all.entries ≡ insert_entry ⟦<String as Ord>⟧.cmp self.old.all.entries buffer.name buffer.bytes) }
+        ensures kept { OnErr result (self.new.all.entries ≡ self.old.all.entries) }
     {
         let Buffer { name, bytes } = buffer;
         self.all.insert(name, bytes)?;
@@ -88,7 +89,8 @@ impl Buffers {
 
     /// The same, and says so.
     pub(crate) fn write(&mut self, buffer: Buffer, line: &mut Line<'_>) -> Result<(), AllocError>
-        ensures { OnOk result (self.new.all.entries ≡ insert_entry ⟦<String as Ord>⟧.cmp self.old.all.entries buffer.name buffer.bytes) }
+        ensures written { OnOk result (self.new.all.entries ≡ insert_entry ⟦<String as Ord>⟧.cmp self.old.all.entries buffer.name buffer.bytes) }
+        ensures kept { OnErr result (self.new.all.entries ≡ self.old.all.entries) }
     {
         let length = buffer.len();
         line.say(format_args!("buffer {} length {length}", buffer.name))?;

@@ -1,8 +1,10 @@
 //! The kinds of filter, behind one type.
-ghost use Rattle.std.specs.Prelude.{◌≡◌, false, IfOk, is_ok, box_value};
+ghost use Rattle.std.specs.Prelude.{◌≡◌, false, not, IfOk, is_ok, box_value};
 ghost use Rattle.passes.specs.Outputs.{written_to};
+ghost use Rattle.filters.specs.Kind.{allowed};
+ghost use Rattle.desk.specs.Faults.{undone};
 ghost use Rattle.desk.specs.Passes.{pass_form};
-ghost use Rattle.desk.specs.Filters.{any_view, any_settings, any_says, any_saved, any_cleared, any_put, any_load, NamesKind};
+ghost use Rattle.desk.specs.Filters.{any_view, any_settings, any_says, any_saved, any_cleared, any_allows, any_put, any_load, NamesKind};
 
 use crate::faults::Fault;
 use crate::pass::Pass;
@@ -69,7 +71,8 @@ macro_rules! whichever {
 
 /// A filter that says yes to none, under these settings.
 fn empty<F: Filter + Drop>(heap: Global, settings: Settings) -> Result<Box<F>, Fault>
-    ensures { IfOk result (λ b. F.Filter.view (box_value b) ≡ F.Filter.kind.cleared settings) }
+    ensures made { IfOk result (λ b. F.Filter.view (box_value b) ≡ F.Filter.kind.cleared settings) }
+    ensures judged { undone result ≡ not (allowed F.Filter.kind settings) }
 {
     let mut filter = F::blank();
     filter.clear(settings)?;
@@ -79,7 +82,8 @@ fn empty<F: Filter + Drop>(heap: Global, settings: Settings) -> Result<Box<F>, F
 impl AnyFilter {
     /// A filter of a kind that says yes to none, under these settings.
     pub(crate) fn new(heap: Global, kind: Kind, settings: Settings) -> Result<AnyFilter, Fault>
-        ensures { IfOk result (λ f. any_view f ≡ any_cleared kind settings) }
+        ensures made { IfOk result (λ f. any_view f ≡ any_cleared kind settings) }
+        ensures judged { undone result ≡ not (any_allows kind settings) }
     {
         match kind {
             Kind::Bloom => Ok(AnyFilter::Bloom(empty(heap, settings)?)),

@@ -123,19 +123,23 @@ module _ {A : Type 0} (f : A → List ℕ) where
         let e = length-append (joined f (take (i + 1) xs)) (joined f (drop (i + 1) xs)) in
         omega arith
 
-    -- one more written behind those in front
-    module _ (out out1 part : List ℕ) (at : ℕ) (v : Wrote (joined f (take i xs)) out out1 at) where
-      pub next_none : length (joined f xs) ≤ length out → ◌≡◌ {A = Option ℕ × List ℕ} (None, part) (written_to (f (get_or xs i d)) (take (length out1 - at) (drop at out1))) → ⊥
-      next_none fits e =
+    -- one more, x, that a writer was given behind those in front
+    module _ (out out1 part : List ℕ) (at : ℕ) (v : Wrote (joined f (take i xs)) out out1 at) (x : A) (is : x ≡ get_or xs i d) (res : Option ℕ) (e : ◌≡◌ {A = Option ℕ × List ℕ} (res, part) (written_to (f x) (take (length out1 - at) (drop at out1)))) where
+      answered : (r : Option ℕ) → res ≡ r → ◌≡◌ {A = Option ℕ × List ℕ} (r, part) (written_to (f (get_or xs i d)) (take (length out1 - at) (drop at out1)))
+      answered r was = ap (λ (r : Option ℕ). (r, part)) (sym was) ∙ e ∙ ap (λ (x : A). written_to (f x) (take (length out1 - at) (drop at out1))) is
+
+      pub next_none : length (joined f xs) ≤ length out → res ≡ None → ⊥
+      next_none fits was =
           let more = f (get_or xs i d) in
           let room = take (length out1 - at) (drop at out1) in
-          let short = wrote_none more room part e in
+          let short = wrote_none more room part (answered None was) in
           let a = front_length in
           let b = ap length (behind (joined f (take i xs)) out out1 at v) ∙ length-drop (length (joined f (take i xs))) out in
           omega arith
 
-      pub next_some : (n : ℕ) → ◌≡◌ {A = Option ℕ × List ℕ} (Some n, part) (written_to (f (get_or xs i d)) (take (length out1 - at) (drop at out1))) → Wrote (joined f (take (i + 1) xs)) out (put_mid at (length out1 - at) out1 part) (at + n)
-      next_some n e =
+      pub next_some : (n : ℕ) → res ≡ Some n → Wrote (joined f (take (i + 1) xs)) out (put_mid at (length out1 - at) out1 part) (at + n)
+      next_some n was =
           let more = f (get_or xs i d) in
+          let room = take (length out1 - at) (drop at out1) in
           let P : List ℕ → Type 0 = λ bs. Wrote bs out (put_mid at (length out1 - at) out1 part) (at + n) in
-          subst P (sym front_more) (chain (joined f (take i xs)) more out out1 part at n v (wrote more (take (length out1 - at) (drop at out1)) part n e))
+          subst P (sym front_more) (chain (joined f (take i xs)) more out out1 part at n v (wrote more room part n (answered (Some n) was)))
