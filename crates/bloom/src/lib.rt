@@ -8,7 +8,7 @@ ghost use Rattle.bloom.specs.Bloom.{BloomView, bloom_kind, says_pair, with_pair}
 ghost use Rattle.bloom.specs.Rules.{bloom_rules, bloom_sound};
 
 use filters::table::{MOST_BYTES, Table};
-use filters::{Filter, Hashing, Settings, allows_hashes};
+use filters::{Filter, Hashing, Settings, Stored, allows_hashes, write_saved};
 use passes::identifier::{HashPair, Identifier};
 use refusals::Refusal;
 
@@ -98,8 +98,12 @@ impl Filter for Bloom {
         self.table.settings
     }
 
-    fn saved(&self) -> &[u8] {
-        self.table.front()
+    fn saved_len(&self) -> usize {
+        self.table.front().len()
+    }
+
+    fn save(&self, out: &mut [u8]) -> Option<usize> {
+        write_saved(self.table.front(), out)
     }
 
     fn empty(&mut self, settings: Settings) {
@@ -118,5 +122,11 @@ impl Filter for Bloom {
 
     fn ask<I: Identifier>(&self, id: &I) -> bool {
         self.has(self.table.pair_of(id))
+    }
+}
+
+impl Stored for Bloom {
+    fn saved(&self) -> &[u8] {
+        self.table.front()
     }
 }

@@ -54,6 +54,9 @@ ranges size hashes e =
 
 -- the buckets and fingerprints of a sound view
 module _ (s : Settings) (ok : cuckoo_allows s.size s.hashing.hashes ≡ true) where
+  pub print_low : (h : HashPair) → fingerprint h.h2 < 256
+  print_low h = omega arith
+
   pub print_some : (h : HashPair) → fingerprint h.h2 ≢ 0
   print_some h e = omega arith
 

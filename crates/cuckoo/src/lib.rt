@@ -8,7 +8,7 @@ ghost use Rattle.cuckoo.specs.Laws.{CuckooLaws};
 ghost use Rattle.cuckoo.specs.Rules.{cuckoo_rules, cuckoo_sound};
 
 use filters::table::{MOST_BYTES, Table};
-use filters::{Filter, Hashing, Settings, allows_hashes};
+use filters::{Filter, Hashing, Settings, Stored, allows_hashes, write_saved};
 use passes::identifier::Identifier;
 use refusals::Refusal;
 
@@ -64,8 +64,12 @@ impl Filter for Cuckoo {
         self.table.settings
     }
 
-    fn saved(&self) -> &[u8] {
-        self.table.front()
+    fn saved_len(&self) -> usize {
+        self.table.front().len()
+    }
+
+    fn save(&self, out: &mut [u8]) -> Option<usize> {
+        write_saved(self.table.front(), out)
     }
 
     fn empty(&mut self, settings: Settings) {
@@ -83,5 +87,11 @@ impl Filter for Cuckoo {
 
     fn ask<I: Identifier>(&self, id: &I) -> bool {
         self.stands(self.place(self.table.pair_of(id)))
+    }
+}
+
+impl Stored for Cuckoo {
+    fn saved(&self) -> &[u8] {
+        self.table.front()
     }
 }

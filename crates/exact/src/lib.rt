@@ -8,7 +8,7 @@ ghost use Rattle.exact.specs.Exact.{ExactView, exact_kind};
 ghost use Rattle.exact.specs.Memory.{view_of};
 ghost use Rattle.exact.specs.Rules.{exact_rules, exact_sound, exact_alone};
 
-use filters::{Exact, Filter, Hashing, Settings, allows_hashes};
+use filters::{Exact, Filter, Hashing, Settings, Stored, allows_hashes, write_saved};
 use passes::identifier::Identifier;
 use refusals::Refusal;
 
@@ -19,13 +19,20 @@ use rows::{count_rows, has_form, insert_row, judge_rows, place_of};
 use table::{ExactList, MOST_ROWS, TABLE_SIZE};
 
 impl ExactList {
+    /// The rows in use.
+    fn front(&self) -> &[u8]
+        ensures { result.now ≡ take self.now.len self.now.table }
+    {
+        &self.table[..self.len]
+    }
+
     /// Adds a form that does not stand yet, where there is room for it.
     fn add(&mut self, form: &[u8])
         requires { Lawful form.now × (stands form.now (view_of self.old).forms ≡ false) × (self.old.count < MOST_ROWS) }
         ensures { view_of self.new ≡ record { hashing = self.old.hashing; forms = added form.now (view_of self.old).forms } }
     {
         let n = self.len;
-        let at = place_of(self.saved(), form);
+        let at = place_of(self.front(), form);
         insert_row(&mut self.table, n, at, form);
         self.len = n + (1 + form.len());
         self.count += 1;
@@ -71,8 +78,12 @@ impl Filter for ExactList {
         }
     }
 
-    fn saved(&self) -> &[u8] {
-        &self.table[..self.len]
+    fn saved_len(&self) -> usize {
+        self.len
+    }
+
+    fn save(&self, out: &mut [u8]) -> Option<usize> {
+        write_saved(self.front(), out)
     }
 
     fn empty(&mut self, settings: Settings) {
@@ -91,7 +102,7 @@ impl Filter for ExactList {
 
     fn put<I: Identifier>(&mut self, id: &I) -> bool {
         let form = id.written();
-        if has_form(self.saved(), form.as_bytes()) {
+        if has_form(self.front(), form.as_bytes()) {
             return true;
         }
         if self.count == MOST_ROWS {
@@ -103,7 +114,13 @@ impl Filter for ExactList {
 
     fn ask<I: Identifier>(&self, id: &I) -> bool {
         let form = id.written();
-        has_form(self.saved(), form.as_bytes())
+        has_form(self.front(), form.as_bytes())
+    }
+}
+
+impl Stored for ExactList {
+    fn saved(&self) -> &[u8] {
+        self.front()
     }
 }
 

@@ -1,10 +1,12 @@
 -- What it takes for bytes to be accepted by load.
-use Rattle.std.specs.Prelude.{◌≡◌, ℕ, true, false, cond, List, length, Some, None, Ok, Option, ◌≢◌, refl}
-use Rattle.std.proofs.Common.{sym, ◌∙◌, ⊎_elim}
+use Rattle.std.specs.Prelude.{◌≡◌, ℕ, true, false, cond, List, length, Some, None, Ok, Option, Result, ◌≢◌, refl}
+use Rattle.std.proofs.Common.{sym, ap, ◌∙◌, ⊎_elim}
 use Rattle.std.proofs.lemmas.Bool.{cases_Bool, cond-true, cond-false}
 use Rattle.refusals.specs.declared.Reason.{Reason}
 use Rattle.refusals.specs.declared.Reason.TheVariants.{BadLength, BadSetting}
-use Rattle.filters.specs.Answers.{answered}
+use Rattle.refusals.specs.declared.Refusal.{Refusal}
+use Rattle.filters.specs.declared.Hashing.{Hashing}
+use Rattle.filters.specs.Answers.{answered, unless, after_load}
 use Rattle.filters.specs.Kind.{Kind, hashes_allowed, content_reason, judged}
 
 module _ {V : Type 0} (k : Kind V) (hashes : ℕ) (body : List ℕ) where
@@ -36,3 +38,9 @@ module _ {V : Type 0} (k : Kind V) (hashes : ℕ) (body : List ℕ) where
 pub ok_none : (o : Option Reason) (u : Unit {0}) → Ok u ≡ answered o → o ≡ None
 ok_none None u e = refl
 ok_none (Some r) u e = cc
+
+-- what load leaves when the bytes are accepted
+pub after_accepted : {V : Type 0} (k : Kind V) (v : V) (h : Hashing) (body : List ℕ) → judged k h.hashes body ≡ None → (Ok tt, k.loaded h body) ≡ after_load k v h body
+after_accepted {V} k v h body e =
+    let done : Option Reason → Result (Unit {0}) Refusal × V = λ o. (answered o, unless o (k.loaded h body) v) in
+    ap done (sym e)

@@ -77,7 +77,26 @@ module _ (k : Scheme) where
       let p = and_parts (k.measures v.settings.size) (hashes_allowed v.settings.hashing.hashes) w.allowed in
       accepted_from (table_kind k) v.settings.hashing.hashes v.table (record { counted = p.1; measured = ap k.measures w.long ∙ p.0; well = refl })
 
+  -- a table loaded under the hashing under which it was saved answers as before, whatever it is asked
+  pub table_restored : (v : TableView) (x : List ℕ) → Whole k v → (table_kind k).says ((table_kind k).loaded v.settings.hashing v.table) x ≡ (table_kind k).says v x
+  table_restored v x w = ap (λ (n : ℕ). k.says (record { settings = record { hashing = v.settings.hashing; size = n }; table = v.table }) (pair_of v.settings x)) w.long
+
   module _ (keeps : Keeps k) where
+    -- a put that is taken leaves a sound table, whatever is put
+    pub sound_after : (v : TableView) (x : List ℕ) → Whole k v → (table_kind k).takes v x ≡ true → (table_kind k).sound ((table_kind k).put v x) ≡ true
+    sound_after v x w t =
+        let h = pair_of v.settings x in
+        let u = unwrap_or (k.puts v h) v.table in
+        let z = keeps.sized v h u w (some_value (k.puts v h) v.table t) in
+        sound_from (with_table v u) (record { allowed = w.allowed; long = z.0; real = z.1 })
+
+    -- after it the table says yes to that one, and to all it said yes to before
+    pub has_after : (v : TableView) (x : List ℕ) → Whole k v → (table_kind k).takes v x ≡ true → (table_kind k).says ((table_kind k).put v x) x ≡ true
+    has_after v x w t = let h = pair_of v.settings x in keeps.has v h (unwrap_or (k.puts v h) v.table) w (some_value (k.puts v h) v.table t)
+
+    pub still_after : (v : TableView) (x y : List ℕ) → Whole k v → (table_kind k).takes v x ≡ true → (table_kind k).says v y ≡ true → (table_kind k).says ((table_kind k).put v x) y ≡ true
+    still_after v x y w t = let h = pair_of v.settings x in keeps.still v h (pair_of v.settings y) (unwrap_or (k.puts v h) v.table) w (some_value (k.puts v h) v.table t)
+
     first_allowed : table_allows k k.first 1 ≡ true
     first_allowed = and_from (k.measures k.first) (hashes_allowed 1) keeps.first refl
 
@@ -86,12 +105,7 @@ module _ (k : Scheme) where
       within = λ size hashes e. let p = and_parts (k.measures size) (hashes_allowed hashes) e in (keeps.within size p.0, p.1);
       sound_blank = sound_from (zeroed (first_settings k.first)) (record { allowed = first_allowed; long = length-replicate k.first 0; real = bytes_zeros k.first });
       sound_cleared = λ s e. sound_from (zeroed s) (record { allowed = e; long = length-replicate s.size 0; real = bytes_zeros s.size });
-      sound_put = λ v x e _ t.
-          let w = whole v e in
-          let h = pair_of v.settings x in
-          let u = unwrap_or (k.puts v h) v.table in
-          let z = keeps.sized v h u w (some_value (k.puts v h) v.table t) in
-          sound_from (with_table v u) (record { allowed = w.allowed; long = z.0; real = z.1 });
+      sound_put = λ v x e _ t. sound_after v x (whole v e) t;
       sound_loaded = λ h body b e. sound_from (refilled h body) (record { allowed = load_allowed h.hashes body e; long = refl; real = b });
       ready_cleared = λ s e. refl;
       ready_put = λ v x _ _ _ _. refl;
@@ -100,12 +114,12 @@ module _ (k : Scheme) where
       kept = λ v x _ _ _ _. refl;
       none_blank = λ x _. keeps.none (first_settings k.first) (pair_of (first_settings k.first) x) first_allowed;
       none_cleared = λ s x e _. keeps.none s (pair_of s x) e;
-      has = λ v x e _ t. let h = pair_of v.settings x in keeps.has v h (unwrap_or (k.puts v h) v.table) (whole v e) (some_value (k.puts v h) v.table t);
-      still = λ v x y e _ _ t. let h = pair_of v.settings x in keeps.still v h (pair_of v.settings y) (unwrap_or (k.puts v h) v.table) (whole v e) (some_value (k.puts v h) v.table t);
+      has = λ v x e _ t. has_after v x (whole v e) t;
+      still = λ v x y e _ _ t. still_after v x y (whole v e) t;
       fits = λ v e _. let w = whole v e in (omega (arith, w.long), w.real);
       accepted = λ v e _. saved_accepted v (whole v e);
       under = λ h body b e. refl;
-      restored = λ v x e _ _. let w = whole v e in ap (λ (n : ℕ). k.says (record { settings = record { hashing = v.settings.hashing; size = n }; table = v.table }) (pair_of v.settings x)) w.long;
+      restored = λ v x e _ _. table_restored v x (whole v e);
     }
 
     -- settings that are allowed, and a table in memory, have a sound view

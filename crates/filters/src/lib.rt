@@ -89,10 +89,6 @@ pub trait Filter: Sized {
     fn settings(&self) -> Settings
         ensures { result ≡ kind.settings (view self.now) };
 
-    /// The bytes that it saves.
-    fn saved(&self) -> &[u8]
-        ensures { result.now ≡ kind.saved (view self.now) };
-
     /// Sets settings that are allowed and empties it.
     fn empty(&mut self, settings: Settings)
         requires { allowed kind settings ≡ true }
@@ -110,6 +106,15 @@ pub trait Filter: Sized {
     /// Whether it says yes to an identifier.
     fn ask<I: Identifier>(&self, id: &I) -> bool
         ensures { result ≡ kind.says (view self.now) (I.form id.now) };
+
+    /// How many bytes it saves.
+    fn saved_len(&self) -> usize
+        ensures { result ≡ length (kind.saved (view self.now)) };
+
+    /// Writes its bytes to the front of the output and says how many; none, and nothing written, if they don't fit. A kind may make them only
+    /// here: one that holds them writes them by `write_saved`.
+    fn save(&self, out: &mut [u8]) -> Option<usize>
+        ensures { (result, out.new) ≡ written_to (kind.saved (view self.now)) out.old };
 
     /// Whether load would accept these bytes under this hash count.
     fn judge(hashes: u8, body: &[u8]) -> Result<(), Refusal>
@@ -135,26 +140,6 @@ pub trait Filter: Sized {
         Ok(())
     }
 
-    /// How many bytes it saves.
-    fn saved_len(&self) -> usize
-        ensures { result ≡ length (kind.saved (view self.now)) }
-    {
-        self.saved().len()
-    }
-
-    /// Writes its bytes to the front of the output and says how many; none, and nothing written, if they don't fit.
-    fn save(&self, out: &mut [u8]) -> Option<usize>
-        ensures { (result, out.new) ≡ written_to (kind.saved (view self.now)) out.old }
-    {
-        let saved = self.saved();
-        let n = saved.len();
-        if n > out.len() {
-            return None;
-        }
-        out[..n].copy_from_slice(saved);
-        Some(n)
-    }
-
     /// Takes over saved bytes under this salt, level and hash count; bytes that aren't accepted change nothing.
     fn load(&mut self, hashing: Hashing, body: &[u8]) -> Result<(), Refusal>
         ensures { (result, view self.new) ≡ after_load kind (view self.old) hashing body.now }
@@ -163,6 +148,25 @@ pub trait Filter: Sized {
         self.take_over(hashing, body);
         Ok(())
     }
+}
+
+/// Writes saved bytes to the front of the output and says how many; none, and nothing written, if they don't fit.
+pub fn write_saved(saved: &[u8], out: &mut [u8]) -> Option<usize>
+    ensures { (result, out.new) ≡ written_to saved.now out.old }
+{
+    let n = saved.len();
+    if n > out.len() {
+        return None;
+    }
+    out[..n].copy_from_slice(saved);
+    Some(n)
+}
+
+/// A filter that holds the bytes that it saves as one slice.
+pub trait Stored: Filter {
+    /// The bytes that it saves.
+    fn saved(&self) -> &[u8]
+        ensures { result.now ≡ Self.Filter.kind.saved (Self.Filter.view self.now) };
 }
 
 /// A filter whose put adds that identifier alone.

@@ -15,7 +15,7 @@ insert_row-requires c =
     let n = me.len in
     let l : n ≤ length me.table = omega (arith, me.sized.0, me.sized.1) in
     let k = keepable_parts (forms_of (take n me.table)) me.filled.0 in
-    let at = c.place_of-at.ensures ∙ ap (λ (t : List ℕ). place x (forms_of t)) (c.saved.ensures ∙ me.filled.1) in
+    let at = c.place_of-at.ensures ∙ ap (λ (t : List ℕ). place x (forms_of t)) c.front.ensures in
     let p = place_in me.table n l me.filled.1 x in
     let r = roomy me.table n l me.filled.1 me.count k.shaped me.filled.2 c.requires.2 in
     let w = lawful_length c.requires.0 in
@@ -32,7 +32,7 @@ invariant_of-self c =
     let l : n ≤ length me.table = omega (arith, me.sized.0, me.sized.1) in
     let long : length T ≡ length me.table = search rules in
     let k = keepable_parts fs me.filled.0 in
-    let at = c.place_of-at.ensures ∙ ap (λ (t : List ℕ). place x (forms_of t)) (c.saved.ensures ∙ me.filled.1) in
+    let at = c.place_of-at.ensures ∙ ap (λ (t : List ℕ). place x (forms_of t)) c.front.ensures in
     let e = inserted me.table n l me.filled.1 x T m c.place_of-at.result at c.insert_row.ensures in
     let f = ap forms_of e ∙ forms_of_pack (added x fs) in
     let r = roomy me.table n l me.filled.1 me.count k.shaped me.filled.2 c.requires.2 in
@@ -55,7 +55,7 @@ returns c =
     let fs = forms_of (take n me.table) in
     let T = c.insert_row.new.table in
     let l : n ≤ length me.table = omega (arith, me.sized.0, me.sized.1) in
-    let at = c.place_of-at.ensures ∙ ap (λ (t : List ℕ). place x (forms_of t)) (c.saved.ensures ∙ me.filled.1) in
+    let at = c.place_of-at.ensures ∙ ap (λ (t : List ℕ). place x (forms_of t)) c.front.ensures in
     let e = inserted me.table n l me.filled.1 x T (n + (1 + length x)) c.place_of-at.result at c.insert_row.ensures in
     let view : List (List ℕ) → ExactView = λ gs. record { hashing = me.hashing; forms = gs } in
     ap view (ap forms_of e ∙ forms_of_pack (added x fs))
